@@ -1,0 +1,38 @@
+-- Sets of atoms as lists of their numbers, and the events that read, add and delete them.
+use Rattle.std.specs.Prelude.{ℕ, Bool, ◌==◌, ◌||◌, not, nat_lt, if◌then◌else◌, List, [], ◌∷◌, filter}
+use Rattle.std.specs.List.{list_any}
+
+-- whether an atom is among these
+abbrev pub has : List ℕ → ℕ → Bool
+has atoms atom = list_any (λ a. a == atom) atoms
+
+abbrev pub have_common : List ℕ → List ℕ → Bool
+have_common xs ys = list_any (has ys) xs
+
+-- an ascending list with one more number, which is not put in twice
+abbrev pub with_number : ℕ → List ℕ → List ℕ
+with_number n [] = n ∷ []
+with_number n (x ∷ xs) = if nat_lt n x then n ∷ x ∷ xs else (if n == x then x ∷ xs else x ∷ with_number n xs)
+
+-- the numbers of a list, ascending, each once
+abbrev pub set_of : List ℕ → List ℕ
+set_of [] = []
+set_of (x ∷ xs) = with_number x (set_of xs)
+
+-- those of the one list that are not in the other
+abbrev pub without : List ℕ → List ℕ → List ℕ
+without xs ys = filter (λ x. not (has ys x)) xs
+
+-- an event: what it needs of a state, and the atoms that it reads, adds and deletes
+pub record PlainEvent : Type 0 where
+  pub cond : (ℕ → Bool) → Bool
+  pub reads : List ℕ
+  pub adds : List ℕ
+  pub dels : List ℕ
+
+-- the one reads what the other writes, or adds what the other deletes
+abbrev pub disturbs : PlainEvent → PlainEvent → Bool
+disturbs one other = have_common one.reads other.adds || have_common one.reads other.dels || have_common one.adds other.dels
+
+abbrev pub interfere : PlainEvent → PlainEvent → Bool
+interfere one other = disturbs one other || disturbs other one
