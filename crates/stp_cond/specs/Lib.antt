@@ -1,3 +1,4 @@
 pub mod Truth
 pub mod Atoms
 pub mod Views
+pub mod Events

@@ -1,13 +1,11 @@
-// A library with one function.
+//! Runs of events at moments, when they execute, and their first fault.
 #![tactic(auto)]
 
-ghost use Rattle.std.specs.Prelude.{◌≡◌};
-ghost use Rattle.stp_happen.specs.Echo.{echo_of};
+pub mod boxes;
+pub mod fault;
+pub mod run;
 
-// The `ensures` clause is the contract: what `echo` returns is `echo_of` of its argument, a definition
-// in `specs/Echo.antt`, which a caller's clause can cite too.
-pub fn echo(x: usize) -> usize
-    ensures { result ≡ echo_of x }
-{
-    x
-}
+pub use boxes::BoxStep;
+pub use fault::Fault;
+pub use run::Entry;
+pub use run::Span;
