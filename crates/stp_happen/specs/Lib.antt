@@ -1,1 +1,4 @@
 pub mod Plain
+pub mod Views
+pub mod Sound
+pub mod SoundBox

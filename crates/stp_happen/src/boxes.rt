@@ -1,5 +1,8 @@
 //! Steps of a plan whose durations are chosen later.
 
+ghost use Rattle.stp_happen.specs.SoundBox.{IsBox};
+
+use stp_base::{List, StateRow};
 use stp_cond::{Cond, Event};
 
 /// A step: its start, its least and greatest end, and what happens at both.
@@ -15,4 +18,14 @@ pub struct BoxStep<'a> {
     pub first: Event<'a>,
     pub last: Option<Event<'a>>,
     pub over: &'a Cond<'a>,
+}
+
+/// The steps of a plan on a grid, the initial state and the goal.
+#[derive(Drop)]
+pub struct BoxRun<'a> {
+    pub grid: u128,
+    pub steps: List<BoxStep<'a>>,
+    pub initial: StateRow,
+    pub goal: &'a Cond<'a>,
+    pub ghost sound: { ∥ IsBox grid steps initial goal.now ∥₁ },
 }

@@ -5,7 +5,6 @@ pub mod boxes;
 pub mod fault;
 pub mod run;
 
-pub use boxes::BoxStep;
+pub use boxes::{BoxRun, BoxStep};
 pub use fault::Fault;
-pub use run::Entry;
-pub use run::Span;
+pub use run::{Entry, Run, Span};

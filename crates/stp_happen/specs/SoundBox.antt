@@ -1,0 +1,26 @@
+-- What each box keeps.
+use Rattle.std.specs.Prelude.{◌≡◌, ℕ, ◌<◌, ◌≤◌, Bool, true, false, List, length, All, Option, Some, None, IfSome}
+use Rattle.stp_cond.specs.declared.cond.Cond.{Cond}
+use Rattle.stp_cond.specs.Truth.{is_below}
+use Rattle.stp_happen.specs.declared.boxes.BoxStep.{BoxStep}
+use Rattle.stp_happen.specs.Sound.{IsEventInRange, last_moment}
+
+-- What each step of a box keeps: start before low where there is a last event, and start at low where
+-- there is none; low up to high, and equal unless the step is uncertain.
+pub record IsBoxStep (grid n : ℕ) (s : BoxStep) : Type 0 where
+  pub up : s.low ≤ s.high
+  pub high : s.high ≤ last_moment grid
+  pub certain : s.uncertain ≡ false → s.low ≡ s.high
+  pub lasting : IfSome s.last (λ e. s.start < s.low)
+  pub instant : s.last ≡ None → (s.start ≡ s.low) × (s.uncertain ≡ false)
+  pub first_in_range : IsEventInRange n s.first
+  pub last_in_range : IfSome s.last (IsEventInRange n)
+  pub over_in_range : is_below n s.over.now ≡ true
+
+-- What each box keeps: a grid from 1 to 999,999,999, at most 500 steps, and atoms that the first state has.
+pub record IsBox (grid : ℕ) (steps : List BoxStep) (initial : List Bool) (goal : Cond) : Type 0 where
+  pub grid_low : 1 ≤ grid
+  pub grid_high : grid ≤ 999999999
+  pub few : length steps ≤ 500
+  pub steps_in_range : All (IsBoxStep grid (length initial)) steps
+  pub goal_in_range : is_below (length initial) goal ≡ true
