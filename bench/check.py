@@ -1,0 +1,127 @@
+#!/usr/bin/env python3
+"""Times `check` on plans of 50 to 500 steps and on files near 1 MiB, with the proved program.
+
+Prints for each input the least user time of a few runs, and the factor from the row before it. Nothing is
+judged: read the factors as growth (2 per doubling is linear) and compare rows of one run only.
+
+usage: bench/check.py [runs]
+"""
+import os
+import resource
+import subprocess
+import sys
+import tempfile
+
+TOP = os.path.dirname(os.path.dirname(os.path.abspath(__file__)))
+PROGRAM = os.path.join(TOP, "crates", "stp_program", "out", "stp_program")
+MOST = 1_048_576
+
+
+def chain(steps):
+    """A domain, a problem and a strong plan of so many steps, every other one durative, end to start."""
+    actions, lines = [], []
+    for i in range(steps):
+        if i % 2:
+            actions.append(
+                f"(:durative-action act{i} :parameters () :duration (= ?duration 3)"
+                f" :condition (and (at start (p{i})) (over all (p{i}))) :effect (at end (p{i + 1})))"
+            )
+            lines.append(f"{10 * i}: (act{i}) [3]")
+        else:
+            actions.append(f"(:action act{i} :parameters () :precondition (p{i}) :effect (p{i + 1}))")
+            lines.append(f"{10 * i}: (act{i})")
+    atoms = " ".join(f"(p{i})" for i in range(steps + 1))
+    domain = f"(define (domain chain) (:predicates {atoms})\n" + "\n".join(actions) + ")\n"
+    problem = f"(define (problem y) (:domain chain) (:init (p0)) (:goal (p{steps})))\n"
+    return domain, problem, "\n".join(lines) + "\n"
+
+
+def crowd(steps):
+    """As many steps of one moment, whose events do not interfere."""
+    atoms = " ".join(f"(p{i})" for i in range(steps))
+    actions = "\n".join(f"(:action act{i} :parameters () :precondition (and) :effect (p{i}))" for i in range(steps))
+    goal = "(and " + " ".join(f"(p{i})" for i in range(steps)) + ")"
+    plan = "\n".join(f"0: (act{i})" for i in range(steps)) + "\n"
+    return (
+        f"(define (domain crowd) (:predicates {atoms})\n{actions})\n",
+        f"(define (problem y) (:domain crowd) (:init) (:goal {goal}))\n",
+        plan,
+    )
+
+
+def wide(size):
+    """A domain of about so many bytes, half of them predicates and half actions, and a plan of one step."""
+    atoms, count, used = [], 0, 0
+    while used < size // 2:
+        atom = f"(p{count})"
+        atoms.append(atom)
+        used += len(atom)
+        count += 1
+    actions = ["(:action go :parameters () :precondition (and) :effect (p0))"]
+    used = 0
+    while used < size // 2 - 200:
+        i = len(actions)
+        action = f"(:action a{i} :parameters () :precondition (p{i}) :effect (and (p{i + 1}) (not (p{i}))))"
+        actions.append(action)
+        used += len(action) + 1
+    domain = "(define (domain wide) (:predicates " + "".join(atoms) + ")\n" + "\n".join(actions) + ")\n"
+    return domain[:MOST], "(define (problem y) (:domain wide) (:init) (:goal (p0)))\n", "0: (go)\n"
+
+
+def long_event(size):
+    """One action whose condition and effect fill the file."""
+    count = size // 34
+    atoms = "".join(f"(p{i})" for i in range(count))
+    domain = (
+        f"(define (domain event) (:predicates {atoms})\n(:action go :parameters () :precondition (and {atoms})"
+        f" :effect (and {atoms})))\n"
+    )
+    return domain[:MOST], f"(define (problem y) (:domain event) (:init {atoms}) (:goal (p0)))\n", "0: (go)\n"
+
+
+def comment(size):
+    """A plan that is a comment of about so many bytes."""
+    domain, problem, plan = chain(2)
+    return domain, problem, plan + ";" + "x" * (size - len(plan) - 1)
+
+
+def seconds(files, runs):
+    with tempfile.TemporaryDirectory() as folder:
+        names = []
+        for name, text in zip(["d", "p", "l"], files):
+            path = os.path.join(folder, name)
+            with open(path, "w") as out:
+                out.write(text)
+            names.append(path)
+        least = None
+        for _ in range(runs):
+            before = resource.getrusage(resource.RUSAGE_CHILDREN).ru_utime
+            done = subprocess.run([PROGRAM, "check", *names], capture_output=True, text=True)
+            spent = resource.getrusage(resource.RUSAGE_CHILDREN).ru_utime - before
+            least = spent if least is None else min(least, spent)
+        return least, done.returncode, done.stdout.split("\n")[0]
+
+
+def table(title, make, sizes, runs):
+    print(title)
+    before = None
+    for size in sizes:
+        least, status, first = seconds(make(size), runs)
+        factor = f"{least / before:5.2f}" if before else "     "
+        print(f"  {size:>9}  {least:8.3f} s  {factor}  [{status}] {first}")
+        before = least
+
+
+def main():
+    runs = int(sys.argv[1]) if len(sys.argv) > 1 else 5
+    if not os.access(PROGRAM, os.X_OK):
+        sys.exit("build the program first: ./stp check examples/plain/domain.pddl examples/plain/problem.pddl examples/plain/strong.plan")
+    print("user time, and the factor from the row before")
+    table("a chain of steps", chain, [50, 100, 200, 400, 500], runs)
+    table("steps of one moment", crowd, [50, 100, 200, 400, 500], runs)
+    table("bytes of a domain", wide, [131_072, 262_144, 524_288, MOST], runs)
+    table("bytes of one event", long_event, [131_072, 262_144, 524_288, MOST], runs)
+    table("bytes of a plan's comment", comment, [131_072, 262_144, 524_288, MOST], runs)
+
+
+main()

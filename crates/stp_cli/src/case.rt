@@ -1,0 +1,3 @@
+//! The case that three files make.
+
+ghost use Rattle.std.specs.Prelude.{◌≡◌, ◌≤◌, length, IfOk, Ok, Err};

@@ -1,0 +1,4 @@
+(define (problem one-batch)
+ (:domain vessel)
+ (:init (empty))
+ (:goal (and (mixed) (empty))))
