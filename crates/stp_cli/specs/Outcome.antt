@@ -1,6 +1,8 @@
 -- What a call of the program may answer, and what it has written then.
-use Rattle.std.specs.Prelude.{◌≡◌, ℕ, ◌≤◌, Bool, false, nat_lt, if◌then◌else◌, ◌⊎◌, List, [], ◌∷◌, ◌++◌, length, take, All, Option, Some, None, IfSome, option_map}
+use Rattle.std.specs.Prelude.{◌≡◌, ℕ, ◌≤◌, Bool, false, nat_lt, MatchBool, ◌⊎◌, List, [], ◌∷◌, ◌++◌, length, take, All, Option, Some, None, IfSome, option_map}
 use Rattle.stp_io.specs.Store.{HasRisen}
+use Rattle.stp_io.specs.declared.loading.LoadFault.{LoadFault}
+use Rattle.stp_io.specs.declared.loading.LoadFault.TheVariants as loads
 use Rattle.stp_report.specs.declared.answer.Answer.{Answer}
 use Rattle.stp_report.specs.declared.answer.Answer.TheVariants as answers
 use Rattle.stp_report.specs.declared.answer.Code.TheVariants.{F01}
@@ -17,7 +19,7 @@ use Rattle.stp_cli.specs.Verdict.{IsJudged}
 -- a file that is too long is refused, and else the rest decides by its bytes; a file that is not there is never judged
 abbrev pub IsLoaded : FileName → Option (List ℕ) → (List ℕ → Answer → Type 0) → Answer → Type 0
 IsLoaded file None rest answer = ⊥
-IsLoaded file (Some bytes) rest answer = if nat_lt 1048576 (length bytes) then answer ≡ answers.Refused file F01 1048576 else rest bytes answer
+IsLoaded file (Some bytes) rest answer = MatchBool (nat_lt 1048576 (length bytes)) (answer ≡ answers.Refused file F01 1048576) (rest bytes answer)
 
 -- the answer on three files, which are loaded one after another
 abbrev pub IsAnswer : Option (List ℕ) → Option (List ℕ) → Option (List ℕ) → Answer → Type 0
@@ -31,7 +33,7 @@ IsFine file = (bytes : List ℕ) × (file ≡ Some bytes) × (length bytes ≤ 1
 -- ---- the causes of answers
 
 -- the store, as a call began and as it ended
-pub record Reads : Type 0 where
+pub record StoreCall : Type 0 where
   -- the files that the store tells, and the names that are steady, as the call began
   pub told : Option (List ℕ → Option (List ℕ))
   pub steady : List ℕ → Bool
@@ -40,7 +42,7 @@ pub record Reads : Type 0 where
   pub faults_after : ℕ
 
 -- the sink, as a call began and as it ended
-pub record Writes : Type 0 where
+pub record SinkCall : Type 0 where
   -- what was written, where the sink tells it, before and after
   pub written : Option (List ℕ)
   pub written_after : Option (List ℕ)
@@ -49,24 +51,24 @@ pub record Writes : Type 0 where
   pub faults_after : ℕ
 
 -- a read of this name failed: the store counted a fault, and the name was not steady
-abbrev pub IsReadFault : Reads → List ℕ → Type 0
+abbrev pub IsReadFault : StoreCall → List ℕ → Type 0
 IsReadFault reads name = HasRisen reads.faults reads.faults_after × (reads.steady name ≡ false)
 
 -- the files before, where told, are there and not too long
-abbrev pub AreFine : Reads → List (List ℕ) → Type 0
+abbrev pub AreFine : StoreCall → List (List ℕ) → Type 0
 AreFine reads names = IfSome reads.told (λ file. All (λ name. IsFine (file name)) names)
 
-abbrev pub IsFaultOf : Reads → Names → FileName → Type 0
+abbrev pub IsFaultOf : StoreCall → Names → FileName → Type 0
 IsFaultOf reads names files.Domain = IsReadFault reads names.domain
 IsFaultOf reads names files.Problem = IsReadFault reads names.problem × AreFine reads (names.domain ∷ [])
 IsFaultOf reads names files.Plan = IsReadFault reads names.plan × AreFine reads (names.domain ∷ names.problem ∷ [])
 
 -- where the files are told, the answer is the one on these files
-abbrev pub IsAnswerOn : Reads → Names → Answer → Type 0
+abbrev pub IsAnswerOn : StoreCall → Names → Answer → Type 0
 IsAnswerOn reads names answer = IfSome reads.told (λ file. IsAnswer (file names.domain) (file names.problem) (file names.plan) answer)
 
 -- when an answer may come to a command
-abbrev pub IsAllowedTo : Reads → Names → Answer → Type 0
+abbrev pub IsAllowedTo : StoreCall → Names → Answer → Type 0
 IsAllowedTo reads names (answers.Strong steps) = IsAnswerOn reads names (answers.Strong steps)
 IsAllowedTo reads names (answers.Weak fault) = IsAnswerOn reads names (answers.Weak fault)
 IsAllowedTo reads names (answers.Refused file code at) = IsAnswerOn reads names (answers.Refused file code at)
@@ -74,9 +76,15 @@ IsAllowedTo reads names (answers.ReadFault file) = IsFaultOf reads names file
 IsAllowedTo reads names answers.Usage = ⊥
 
 -- usage exactly where the words are no command
-abbrev pub IsAllowed : Reads → Option Names → Answer → Type 0
+abbrev pub IsAllowed : StoreCall → Option Names → Answer → Type 0
 IsAllowed reads None answer = answer ≡ answers.Usage
 IsAllowed reads (Some names) answer = IsAllowedTo reads names answer
+
+-- the answer where a file was not loaded
+abbrev pub IsUnloaded : FileName → LoadFault → Answer → Type 0
+IsUnloaded file loads.ReadFault answer = answer ≡ answers.ReadFault file
+IsUnloaded file loads.TooLong answer = answer ≡ answers.Refused file F01 1048576
+IsUnloaded file loads.Memory answer = ⊥
 
 -- ---- what is left behind
 
@@ -87,23 +95,23 @@ status_of (answers.Refused file code at) = statuses.Refused
 status_of (answers.ReadFault file) = statuses.OutsideFault
 status_of answers.Usage = statuses.Usage
 
--- the first n bytes of a text were appended
-abbrev pub HasWritten : Writes → List ℕ → ℕ → Type 0
-HasWritten writes text n = writes.written_after ≡ option_map (λ w. w ++ take n text) writes.written
+-- this was appended, and nothing else
+abbrev pub HasAppended : SinkCall → List ℕ → Type 0
+HasAppended writes piece = writes.written_after ≡ option_map (λ w. w ++ piece) writes.written
 
 -- the whole text of an answer was written
-pub record IsWritten (writes : Writes) (status : Status) (answer : Answer) : Type 0 where
-  pub status : status ≡ status_of answer
-  pub text : HasWritten writes (text_of answer) (length (text_of answer))
+pub record IsWritten (writes : SinkCall) (status : Status) (answer : Answer) : Type 0 where
+  pub ended : status ≡ status_of answer
+  pub text : HasAppended writes (text_of answer)
 
 -- a write failed and was counted, and a beginning of the text was written
-pub record IsBroken (writes : Writes) (status : Status) (answer : Answer) : Type 0 where
-  pub status : status ≡ statuses.OutsideFault
+pub record IsBroken (writes : SinkCall) (status : Status) (answer : Answer) : Type 0 where
+  pub ended : status ≡ statuses.OutsideFault
   pub counted : HasRisen writes.faults writes.faults_after
-  pub text : (n : ℕ) × (n ≤ length (text_of answer)) × HasWritten writes (text_of answer) n
+  pub text : (n : ℕ) × (n ≤ length (text_of answer)) × HasAppended writes (take n (text_of answer))
 
 -- want of memory, with nothing written; or an allowed answer, written whole or as far as a write failed
-abbrev pub IsOutcome : Reads → Writes → List (List ℕ) → Status → Type 0
+abbrev pub IsOutcome : StoreCall → SinkCall → List (List ℕ) → Status → Type 0
 IsOutcome reads writes words status =
     ((status ≡ statuses.Memory) × (writes.written_after ≡ writes.written))
     ⊎ ((answer : Answer) × IsAllowed reads (files_of words) answer × (IsWritten writes status answer ⊎ IsBroken writes status answer))

@@ -1,4 +1,13 @@
 //! The top call: what the program does for a list of words.
 #![tactic(auto)]
 
-pub mod words;
+mod bind;
+mod case;
+mod judge;
+mod refusal;
+mod status;
+mod top;
+mod words;
+
+pub use status::Status;
+pub use top::run;

@@ -1,6 +1,6 @@
 -- Sets of atoms as lists of their numbers, and the events that read, add and delete them.
 use Rattle.std.specs.Prelude.{ℕ, Bool, ◌==◌, ◌||◌, not, nat_lt, if◌then◌else◌, List, [], ◌∷◌, filter}
-use Rattle.std.specs.List.{list_any}
+use Rattle.std.specs.List.{list_any, list_all}
 
 -- whether an atom is among these
 abbrev pub has : List ℕ → ℕ → Bool
@@ -36,3 +36,7 @@ disturbs one other = have_common one.reads other.adds || have_common one.reads o
 
 abbrev pub interfere : PlainEvent → PlainEvent → Bool
 interfere one other = disturbs one other || disturbs other one
+
+-- the event that needs all of some atoms, which it reads; an atom that it both adds and deletes counts as added
+abbrev pub conjunctive : List ℕ → List ℕ → List ℕ → PlainEvent
+conjunctive needs adds dels = record { cond = λ s. list_all s needs; reads = set_of needs; adds = set_of adds; dels = set_of (without dels adds) }

@@ -2,3 +2,4 @@ pub mod Truth
 pub mod Atoms
 pub mod Views
 pub mod Events
+pub mod Laws

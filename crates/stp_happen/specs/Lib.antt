@@ -2,3 +2,10 @@ pub mod Plain
 pub mod Views
 pub mod Sound
 pub mod SoundBox
+pub mod Faults
+pub mod Firsts
+pub mod Runs
+pub mod Boxes
+pub mod Moves
+pub mod Orders
+pub mod Times

@@ -2,8 +2,8 @@
 use Rattle.std.specs.Prelude.{◌≡◌, ℕ, ◌*◌, ◌<◌, ◌≤◌, ◌==◌, nat_lt, Bool, true, false, ◌&&◌, ◌||◌, List, [], ◌∷◌, length, All}
 use Rattle.std.specs.List.{list_all}
 use Rattle.stp_cond.specs.declared.cond.Cond.{Cond}
-use Rattle.stp_cond.specs.declared.event.Event.{Event}
 use Rattle.stp_cond.specs.Truth.{is_below}
+pub use Rattle.stp_cond.specs.Events.{IsEventInRange}
 use Rattle.stp_happen.specs.declared.run.Entry.{Entry}
 use Rattle.stp_happen.specs.declared.run.Span.{Span}
 
@@ -18,13 +18,6 @@ entry_before e o = nat_lt e.time o.time || ((e.time == o.time) && nat_lt e.step.
 
 abbrev pub span_before : Span → Span → Bool
 span_before s o = nat_lt s.step.0 o.step.0
-
--- each atom of an event is below a number
-pub record IsEventInRange (n : ℕ) (e : Event) : Type 0 where
-  pub cond : is_below n e.cond.now ≡ true
-  pub reads : All (λ a. a.0 < n) e.reads.now
-  pub adds : All (λ a. a.0 < n) e.adds.now
-  pub dels : All (λ a. a.0 < n) e.dels.now
 
 -- the greatest moment on a grid
 abbrev pub last_moment : ℕ → ℕ

@@ -1,8 +1,8 @@
 //! The top call.
 
-ghost use Rattle.std.specs.Prelude.{◌≡◌, ◌≤◌, map, string_bytes, length, IfOk};
+ghost use Rattle.std.specs.Prelude.{◌≡◌, ◌≤◌, ℕ, true, List, map, string_bytes, IfOk};
 ghost use Rattle.stp_cli.specs.Named.{names_of};
-ghost use Rattle.stp_cli.specs.Outcome.{IsAllowedTo, IsAllowed, IsOutcome, status_of};
+ghost use Rattle.stp_cli.specs.Outcome.{IsAllowedTo, IsAllowed, IsOutcome, IsUnloaded, status_of};
 ghost use Rattle.stp_cli.specs.Words.{files_of};
 
 use crate::judge::judge;
@@ -28,7 +28,7 @@ fn status_of(answer: Answer) -> Status
 
 /// The answer where a file was not loaded.
 fn unloaded(file: FileName, fault: LoadFault) -> Result<Answer, Memory>
-    ensures { result ≡ unloaded_of file fault }
+    ensures { IfOk result (IsUnloaded file fault) }
 {
     match fault {
         LoadFault::ReadFault => Ok(Answer::ReadFault(file)),
@@ -43,7 +43,10 @@ fn unloaded(file: FileName, fault: LoadFault) -> Result<Answer, Memory>
 
 /// The answer to `check` on the named files.
 fn check<S: Store>(alloc: Global, names: &Files<'_>, store: &mut S) -> Result<Answer, Memory>
-    ensures { IfOk result (λ a. IsAllowedTo (record { told = S.files store.old; steady = S.steady store.old; faults = S.faults store.old; faults_after = S.faults store.new }) (names_of names.now) a) }
+    ensures answer { IfOk result (λ a. IsAllowedTo (record { told = S.files store.old; steady = S.steady store.old; faults = S.faults store.old; faults_after = S.faults store.new }) (names_of names.now) a) }
+    ensures files { S.files store.new ≡ S.files store.old }
+    ensures steady { (n : List ℕ) → S.steady store.old n ≡ true → S.steady store.new n ≡ true }
+    ensures counts { S.faults store.old ≤ S.faults store.new }
 {
     let domain = match load(alloc, store, names.domain) {
         Ok(text) => text,
@@ -66,7 +69,10 @@ fn answer_of<S: Store>(
     words: &[String],
     store: &mut S,
 ) -> Result<Answer, Memory>
-    ensures { IfOk result (λ a. IsAllowed (record { told = S.files store.old; steady = S.steady store.old; faults = S.faults store.old; faults_after = S.faults store.new }) (files_of (map string_bytes words.now)) a) }
+    ensures answer { IfOk result (λ a. IsAllowed (record { told = S.files store.old; steady = S.steady store.old; faults = S.faults store.old; faults_after = S.faults store.new }) (files_of (map string_bytes words.now)) a) }
+    ensures files { S.files store.new ≡ S.files store.old }
+    ensures steady { (n : List ℕ) → S.steady store.old n ≡ true → S.steady store.new n ≡ true }
+    ensures counts { S.faults store.old ≤ S.faults store.new }
 {
     match read_words(words) {
         Some(names) => check(alloc, &names, store),
@@ -82,6 +88,9 @@ pub fn run<S: Store, K: Sink>(
     sink: &mut K,
 ) -> Status
     ensures outcome { IsOutcome (record { told = S.files store.old; steady = S.steady store.old; faults = S.faults store.old; faults_after = S.faults store.new }) (record { written = K.written sink.old; written_after = K.written sink.new; faults = K.faults sink.old; faults_after = K.faults sink.new }) (map string_bytes words.now) result }
+    ensures files { S.files store.new ≡ S.files store.old }
+    ensures steady { (n : List ℕ) → S.steady store.old n ≡ true → S.steady store.new n ≡ true }
+    ensures counts { (S.faults store.old ≤ S.faults store.new) × (K.faults sink.old ≤ K.faults sink.new) }
 {
     let Ok(answer) = answer_of(alloc, words, store) else {
         return Status::Memory;

@@ -1,0 +1,4 @@
+mod Planning
+mod Loading
+mod Casing
+mod Verdicts

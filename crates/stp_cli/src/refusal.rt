@@ -1,0 +1,11 @@
+//! Refusals of files.
+
+use stp_report::{Code, FileName};
+
+/// A file that is refused: by which code, and where in it.
+#[derive(Clone, Copy, Debug, PartialEq, Eq)]
+pub struct Refusal {
+    pub file: FileName,
+    pub code: Code,
+    pub at: u32,
+}

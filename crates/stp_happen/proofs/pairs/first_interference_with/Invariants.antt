@@ -1,0 +1,10 @@
+-- The first of those so far.
+use Rattle.std.proofs.Common.{◌≡◌, take}
+use Rattle.std.specs.List.{filter_map}
+use Rattle.stp_happen.specs.Faults.{interference_of}
+use Rattle.stp_happen.specs.Firsts.{first_from}
+use Rattle.stp_happen.specs.Views.{entry_of, entries_of}
+use Rattle.stp_happen.proofs.pairs.first_interference_with.Given as goal
+
+abbrev pub invariant-loop-other : goal.invariant-loop-other
+invariant-loop-other l = l.best ≡ first_from l.fn.best (filter_map (interference_of (entry_of l.one)) (entries_of (take l.other-index l.entries)))

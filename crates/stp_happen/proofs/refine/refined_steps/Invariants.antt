@@ -1,0 +1,10 @@
+use Rattle.std.proofs.Common.{◌≡◌, ℕ, ◌*◌, ◌++◌, drop, map, All}
+use Rattle.stp_happen.specs.SoundBox.{IsBoxStep}
+use Rattle.stp_happen.specs.Boxes.{steps_of, finer_step}
+use Rattle.stp_happen.proofs.refine.refined_steps.Given as goal
+
+abbrev pub invariant-loop-step : goal.invariant-loop-step
+invariant-loop-step l = record {
+  same : steps_of l.refined ++ map (finer_step l.factor) (steps_of (drop l.step-index l.steps)) ≡ map (finer_step l.factor) (steps_of l.steps);
+  in_range : (grid n : ℕ) → All (IsBoxStep grid n) l.steps → All (IsBoxStep (grid * l.factor) n) l.refined;
+}

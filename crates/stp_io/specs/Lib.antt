@@ -1,0 +1,5 @@
+pub mod Calls
+pub mod Named
+pub mod Sink
+pub mod Steady
+pub mod Store

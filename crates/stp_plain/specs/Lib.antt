@@ -1,0 +1,14 @@
+pub mod Names
+pub mod Table
+pub mod Forms
+pub mod Words
+pub mod Parts
+pub mod Plain
+pub mod Raw
+pub mod Below
+pub mod Range
+pub mod Meaning
+pub mod Views
+pub mod Lists
+pub mod ProblemViews
+pub mod Laws

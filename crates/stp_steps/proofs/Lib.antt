@@ -1,0 +1,7 @@
+pub mod Places
+pub mod Digits
+pub mod Cuts
+pub mod Words
+pub mod Forms
+pub mod Runs
+pub mod Rows

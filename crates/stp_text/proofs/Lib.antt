@@ -1,0 +1,6 @@
+pub mod Lexing
+pub mod Taking
+pub mod Continuing
+pub mod Equations
+pub mod Spelling
+pub mod Least
