@@ -9,7 +9,6 @@ abbrev pub refusal : FileName → Code → ℕ → Refusal
 refusal file code at = record { file = file; code = code; at = at }
 
 infixl 10 ◌>>=◌
-
 -- goes on with a value, where nothing was refused: `x ← r` in a `do`
 abbrev pub ◌>>=◌ : {A B : Type 0} → Result A Refusal → (A → Result B Refusal) → Result B Refusal
 ◌>>=◌ (Err refusal) f = Err refusal

@@ -29,12 +29,7 @@ fn verdict(alloc: Global, boxed: &BoxRun<'_>) -> Result<Answer, Memory>
 }
 
 /// The answer on the bytes of a domain, a problem and a plan.
-pub fn judge(
-    alloc: Global,
-    domain: &[u8],
-    problem: &[u8],
-    plan: &[u8],
-) -> Result<Answer, Memory>
+pub fn judge(alloc: Global, domain: &[u8], problem: &[u8], plan: &[u8]) -> Result<Answer, Memory>
     requires domain { length domain.now ≤ 1048576 }
     requires problem { length problem.now ≤ 1048576 }
     requires plan { length plan.now ≤ 1048576 }

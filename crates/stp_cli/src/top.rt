@@ -60,15 +60,16 @@ fn check<S: Store>(alloc: Global, names: &Files<'_>, store: &mut S) -> Result<An
         Ok(text) => text,
         Err(fault) => return unloaded(FileName::Plan, fault),
     };
-    judge(alloc, domain.as_slice(), problem.as_slice(), plan.as_slice())
+    judge(
+        alloc,
+        domain.as_slice(),
+        problem.as_slice(),
+        plan.as_slice(),
+    )
 }
 
 /// The answer to a list of words.
-fn answer_of<S: Store>(
-    alloc: Global,
-    words: &[String],
-    store: &mut S,
-) -> Result<Answer, Memory>
+fn answer_of<S: Store>(alloc: Global, words: &[String], store: &mut S) -> Result<Answer, Memory>
     ensures answer { IfOk result (λ a. IsAllowed (record { told = S.files store.old; steady = S.steady store.old; faults = S.faults store.old; faults_after = S.faults store.new }) (files_of (map string_bytes words.now)) a) }
     ensures files { S.files store.new ≡ S.files store.old }
     ensures steady { (n : List ℕ) → S.steady store.old n ≡ true → S.steady store.new n ≡ true }

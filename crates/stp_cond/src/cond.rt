@@ -6,7 +6,7 @@ ghost use Rattle.stp_cond.specs.Truth.{truth, state_of_row, is_below, meaning_of
 ghost use Rattle.stp_cond.specs.Views.{atoms_of};
 
 use bumpalo::Bump;
-use bumpalo::collections::into_bump_slice;
+use std::alloc::Global;
 use stp_base::{AtomId, Memory, StateRow};
 
 /// A formula over ground atoms, whose parts lie in an arena.
@@ -50,16 +50,21 @@ pub fn holds(cond: &Cond<'_>, row: &StateRow) -> bool
 }
 
 /// The conjunction of these atoms, in their order.
-pub fn conjunction<'a>(arena: &'a Bump, atoms: &[AtomId]) -> Result<&'a Cond<'a>, Memory>
+pub fn conjunction<'a>(
+    alloc: Global,
+    arena: &'a Bump,
+    atoms: &[AtomId],
+) -> Result<&'a Cond<'a>, Memory>
     ensures meaning { IfOk result
         (λ r. meaning_of r.now ≡ (λ s. list_all s (atoms_of atoms.now))) }
     ensures reads { IfOk result
         (λ r. (these : ℕ → Bool) → reads_only these r.now ≡ list_all these (atoms_of atoms.now)) }
 {
-    let mut parts = Vec::with_capacity(arena, atoms.len())?;
+    let mut parts = Vec::new(alloc);
     for atom in atoms {
         parts.push(Cond::Atom(*atom))?;
     }
-    let cond = arena.try_alloc(Cond::And(into_bump_slice(parts)))?;
+    let slice = arena.try_alloc_slice_copy(&parts)?;
+    let cond = arena.try_alloc(Cond::And(slice))?;
     Ok(cond)
 }

@@ -26,7 +26,7 @@ pub fn conjunctive_event<'a>(
     ensures in_range { IfOk result
         (λ e. (n : ℕ) → All (λ a. a.0 < n) needs.now → All (λ a. a.0 < n) adds.now → All (λ a. a.0 < n) dels.now → IsEventInRange n e) }
 {
-    let cond = conjunction(arena, needs)?;
+    let cond = conjunction(alloc, arena, needs)?;
     let reads = ascending(alloc, arena, needs)?;
     let added = ascending(alloc, arena, adds)?;
     let all_deleted = ascending(alloc, arena, dels)?;

@@ -32,9 +32,9 @@ fn some_and_all(parts: &[Cond<'_>], row: &StateRow) -> (bool, bool)
 fn judged(alloc: Global) -> Result<[bool; 5], Memory> {
     let arena = Bump::new(alloc);
     let row = first_and_last(alloc)?;
-    let both = conjunction(&arena, &[AtomId(2), AtomId(0)])?;
-    let all = conjunction(&arena, &[AtomId(0), AtomId(1)])?;
-    let none = conjunction(&arena, &[])?;
+    let both = conjunction(alloc, &arena, &[AtomId(2), AtomId(0)])?;
+    let all = conjunction(alloc, &arena, &[AtomId(0), AtomId(1)])?;
+    let none = conjunction(alloc, &arena, &[])?;
     let parts = [Cond::Atom(AtomId(1)), Cond::Not(all)];
     let (some, each) = some_and_all(&parts, &row);
     Ok([

@@ -1,24 +1,23 @@
 -- The faults of one more moment of a run.
-use Rattle.std.proofs.Common.{◌≡◌, ℕ, ◌+◌, ◌-◌, ◌<◌, ◌≤◌, Bool, true, false, ◌&&◌, ◌==◌, nat_lt, nat_le, cond, slice_range, List, [], ◌∷◌, ◌++◌, map, take, drop, length, get_or, Option, Some, None, All, refl, sym, ap, ◌∙◌, subst, zero, suc, ⊎_elim, arith}
+use Rattle.std.proofs.Common.{◌≡◌, ℕ, ◌+◌, ◌-◌, ◌<◌, ◌≤◌, Bool, ◌&&◌, ◌==◌, nat_lt, nat_le, slice_range, List, [], ◌∷◌, ◌++◌, map, take, drop, length, get_or, Option, None, All, refl, sym, ap, ◌∙◌, ⊎_elim, arith}
 use Rattle.std.specs.List.{cons_option, filter, filter_map, flat_map}
 use Rattle.std.proofs.Math.Path.{fun_ext}
 use Rattle.std.proofs.Math.Seq.{take-add}
 use Rattle.std.proofs.lemmas.Bool.{cases_lt, ne_eqb, and_left, and_right, cond-false}
 use Rattle.std.proofs.lemmas.Grind.{flat_map-append}
-use Rattle.std.proofs.lemmas.List.{append-nil, append_assoc, map-append, take-append-drop, get_or_default, get_or-take, get_or-drop, length-take, length-drop, length-map}
+use Rattle.std.proofs.lemmas.List.{append-nil, map-append, take-append-drop, get_or_default, get_or-take, get_or-drop, length-take, length-drop, length-map}
 use Rattle.std.proofs.lemmas.List.Elements.{All-head, All-tail, All-map, filter_map-append}
 use Rattle.std.proofs.lemmas.List.Folds.{drop_split}
 use Rattle.stp_cond.specs.Atoms.{interfere}
-use Rattle.stp_cond.specs.Truth.{state_of_row}
 use Rattle.stp_happen.specs.declared.fault.Fault.{Fault}
 use Rattle.stp_happen.specs.declared.run.Entry.{Entry}
 use Rattle.stp_happen.specs.Faults.{interference_of, condition_in, over_all_in, interferences}
-use Rattle.stp_happen.specs.Firsts.{first_from, first_of, changed}
-use Rattle.stp_happen.specs.Plain.{PlainEntry, PlainSpan, PlainRun, state_after, before, after}
+use Rattle.stp_happen.specs.Firsts.{first_from, first_of}
+use Rattle.stp_happen.specs.Plain.{PlainEntry, PlainRun, state_after, before, after}
 use Rattle.stp_happen.specs.Views.{entry_of, entries_of}
 use Rattle.stp_happen.proofs.FaultOrder.{first_again}
 use Rattle.stp_happen.proofs.FirstSteps.{first_from-append}
-use Rattle.stp_happen.proofs.MomentStates.{before_is, after_is, moment_state}
+use Rattle.stp_happen.proofs.MomentStates.{before_is, after_is}
 
 -- ---- lists
 

@@ -1,10 +1,8 @@
 -- A run has no fault exactly where it executes.
-use Rattle.std.proofs.Common.{◌≡◌, ℕ, ◌<◌, ◌≤◌, ◌⊎◌, Bool, true, false, not, ◌&&◌, ◌==◌, nat_lt, nat_le, List, [], ◌∷◌, ◌++◌, Option, Some, None, All, Contains, refl, sym, ap, ◌∙◌, cond, arith}
+use Rattle.std.proofs.Common.{◌≡◌, ℕ, Bool, true, List, [], ◌∷◌, ◌++◌, Option, Some, None, All, refl, ap, ◌∙◌, arith}
 use Rattle.std.specs.List.{cons_option, filter_map, flat_map}
 use Rattle.std.proofs.lemmas.Bool.Decides.{nat_tests}
 use Rattle.std.proofs.lemmas.List.Elements.{All-cons, All-nil, All-head, All-tail, All-weaker}
-use Rattle.stp_cond.specs.Atoms.{interfere}
-use Rattle.stp_happen.specs.declared.fault.Fault.{Fault}
 use Rattle.stp_happen.specs.Faults.{overlap_of, interference_of, condition_in, over_all_in, goal_in, overlaps, interferences, conditions, over_alls, goals, faults_of}
 use Rattle.stp_happen.specs.Plain.{PlainEntry, PlainSpan, PlainRun, AreCalm, IsFed, IsKept, AreApart, Executes, before, after, at_end}
 use Rattle.stp_happen.proofs.MomentSteps.{filter_map_none}

@@ -1,5 +1,5 @@
 -- What entries and spans in an arena stand for.
-use Rattle.std.specs.Prelude.{ℕ, Bool, List, map}
+use Rattle.std.specs.Prelude.{Bool, List, map}
 use Rattle.stp_cond.specs.declared.cond.Cond.{Cond}
 use Rattle.stp_cond.specs.Truth.{meaning_of}
 use Rattle.stp_cond.specs.Events.{event_of}

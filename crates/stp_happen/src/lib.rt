@@ -16,3 +16,6 @@ pub use boxes::{BoxRun, BoxStep};
 pub use fault::Fault;
 pub use first::first_fault;
 pub use run::{Entry, Run, Span};
+
+#[cfg(test)]
+mod tests;

@@ -10,12 +10,12 @@ run_at-requires c = no_durations (steps_of c.args.boxed.now.steps) (certain_step
 
 pub returns-in-None : goal.returns-in-None
 returns-in-None c = (
-    ap length c.as_slice.ensures ∙ sym (length-map c.args.boxed.now.steps step_of),
-    is_strong (plain_box c.args.boxed.now) (certain_steps c.args.boxed.now.steps c.requires.certain) (plain_run c.in_ok-run.run') c.in_ok-run.ensures.executes (c.in-None.ensures.none.0 refl),
-  )
+  ap length c.as_slice.ensures ∙ sym (length-map c.args.boxed.now.steps step_of),
+  is_strong (plain_box c.args.boxed.now) (certain_steps c.args.boxed.now.steps c.requires.certain) (plain_run c.in_ok-run.run') c.in_ok-run.ensures.executes (c.in-None.ensures.none.0 refl),
+)
 
 pub returns : goal.returns
 returns c = (
-    is_weak (plain_box c.args.boxed.now) (certain_steps c.args.boxed.now.steps c.requires.certain) (plain_run c.in_ok-run.run') c.in_ok-run.ensures.executes c.in-Some.fault c.in-Some.ensures.none.1,
-    (c.in_ok-run.ensures.first_fault c.in-Some.fault).0 c.in-Some.ensures.first,
-  )
+  is_weak (plain_box c.args.boxed.now) (certain_steps c.args.boxed.now.steps c.requires.certain) (plain_run c.in_ok-run.run') c.in_ok-run.ensures.executes c.in-Some.fault c.in-Some.ensures.none.1,
+  (c.in_ok-run.ensures.first_fault c.in-Some.fault).0 c.in-Some.ensures.first,
+)

@@ -17,8 +17,8 @@ returns-in-Err-load-2-clause-answer g c =
     let counts : faults c.args.store.now ≤ faults c.load-2.new.store = omega (arith, c.in-Ok.ensures.counts, c.in-Ok-load.ensures.counts) in
     IfOk-weaker c.unloaded-in-Err-load-2.result _ _
     (λ answer e. unloaded_plan (steady c.args.store.now) (faults c.args.store.now) (faults c.load-3.new.store) (names_of c.args.names.now) c.in-Ok.text c.in-Ok-load.text told c.in-Err-load-2.fault answer
-        c.in-Ok.ensures.text (rw same_1 at c.in-Ok-load.ensures.text) c.in-Ok.ensures.limit c.in-Ok-load.ensures.limit
-        (λ was. (risen_from _ _ _ counts (c.in-Err-load-2.ensures.counted (ap Err was)), unsteady_before (steady c.args.store.now) (steady c.load-2.new.store) c.args.names.now.plan.now kept (c.in-Err-load-2.ensures.unsteady (ap Err was))))
-        (λ was. rw same_2 at c.in-Err-load-2.ensures.too_long (ap Err was))
-        e)
+    c.in-Ok.ensures.text (rw same_1 at c.in-Ok-load.ensures.text) c.in-Ok.ensures.limit c.in-Ok-load.ensures.limit
+    (λ was. (risen_from _ _ _ counts (c.in-Err-load-2.ensures.counted (ap Err was)), unsteady_before (steady c.args.store.now) (steady c.load-2.new.store) c.args.names.now.plan.now kept (c.in-Err-load-2.ensures.unsteady (ap Err was))))
+    (λ was. rw same_2 at c.in-Err-load-2.ensures.too_long (ap Err was))
+    e)
     c.unloaded-in-Err-load-2.ensures

@@ -1,4 +1,4 @@
-use Rattle.std.proofs.Common.{◌≡◌, ◌<◌, ◌≤◌, slice_range, take, drop, get_or, refl, ◌∙◌, arith}
+use Rattle.std.proofs.Common.{◌≤◌, slice_range, take, drop, get_or, refl, ◌∙◌, arith}
 use Rattle.stp_cond.specs.Truth.{state_of_row}
 use Rattle.stp_cond.specs.declared.cond.Cond.TheVariants.{True}
 use Rattle.stp_happen.specs.Views.{entries_of, run_of}

@@ -1,4 +1,4 @@
-use Rattle.std.proofs.Common.{ap, ◌∙◌, arith}
+use Rattle.std.proofs.Common.{arith}
 use Rattle.stp_happen.specs.Faults.{interference_of}
 use Rattle.stp_happen.specs.Views.{entry_of}
 use Rattle.stp_happen.proofs.FirstSteps.{step_with}
