@@ -1,4 +1,5 @@
 pub mod Divisors
 pub mod Fractions
 pub mod Reading
+pub mod Units
 pub mod Laws

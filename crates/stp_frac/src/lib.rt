@@ -8,6 +8,7 @@ pub mod laws;
 mod print;
 mod read;
 mod tail;
+pub mod units;
 
 pub use fault::NumberFault;
 pub use frac::Frac;

@@ -1,3 +1,4 @@
+use crate::units::units;
 use crate::{Frac, NumberFault};
 use std::cmp::Ordering;
 use std::test::Fail;
@@ -198,4 +199,25 @@ fn joins_grids(rt: HostRuntime) -> Result<(), Fail> {
         None
     );
     Ok(())
+}
+
+#[test]
+fn reads_units(rt: HostRuntime) {
+    for (text, want) in [
+        ("4", Some(4)),
+        ("007", Some(7)),
+        ("4.0", Some(4)),
+        ("8/2", Some(4)),
+        ("-0", Some(0)),
+        ("999999999", Some(999_999_999)),
+        ("1999999998/2", Some(999_999_999)),
+        ("1000000000/1", None),
+        ("1000000000", None),
+        ("1/2", None),
+        ("-1", None),
+        ("x", None),
+        ("", None),
+    ] {
+        assert_eq!(rt; units(text.as_bytes()), want, "at {text}");
+    }
 }

@@ -1,6 +1,6 @@
 -- Words with a meaning: names, moments and durations.
-use Rattle.std.specs.Prelude.{ℕ, ◌+◌, ◌-◌, ◌*◌, Bool, ◌&&◌, nat_le, if◌then◌else◌, List, [], ◌∷◌, length, Option, Some, None, codes}
-use Rattle.std.specs.List.{list_all}
+use Rattle.std.specs.Prelude.{ℕ, ◌&&◌, nat_le, if◌then◌else◌, List, Option, Some, None, codes}
+use Rattle.stp_frac.specs.Units.{units_of}
 use Rattle.stp_text.specs.Tree.{Tree, Word, Node}
 use Rattle.stp_plain.specs.declared.part.Moment.{Moment}
 use Rattle.stp_plain.specs.declared.part.Moment.TheVariants.{Start, Over, End}
@@ -44,20 +44,14 @@ timed_of tree = do
   item ← only other.1
   Some (moment, item)
 
-abbrev pub is_digit : ℕ → Bool
-is_digit byte = nat_le 48 byte && nat_le byte 57
-
--- the number that these digits spell after a number
-abbrev pub spelled_after : ℕ → List ℕ → ℕ
-spelled_after number [] = number
-spelled_after number (byte ∷ bytes) = spelled_after (10 * number + (byte - 48)) bytes
-
--- 1 to 9 digits with a value of at least 1
-abbrev pub units_of : List ℕ → Option ℕ
-units_of text = given (list_all is_digit text && nat_le (length text) 9 && nat_le 1 (spelled_after 0 text)) (spelled_after 0 text)
+-- a number of units from 1 to 999,999,999
+abbrev pub duration_units : List ℕ → Option ℕ
+duration_units text = do
+  units ← units_of text
+  given (nat_le 1 units) units
 
 abbrev pub number_of_word : Tree → Option ℕ
-number_of_word (Word at text) = units_of text
+number_of_word (Word at text) = duration_units text
 number_of_word (Node at items) = None
 
 -- (= ?duration N)

@@ -5,8 +5,8 @@ use bumpalo::Bump;
 use std::alloc::Global;
 use std::process::Abort;
 use std::test::*;
-use stp_base::AtomId;
 use stp_base::limits::MAX_FILE_BYTES;
+use stp_base::{AtomId, Text};
 use stp_text::tree;
 
 /// The domain of a text.
@@ -71,7 +71,7 @@ fn plain(rt: HostRuntime) -> Result<(), Fail> {
 
 #[test]
 fn domains_that_are_plain_and_not(rt: HostRuntime) -> Result<(), Fail> {
-    let rows: [(&[u8], bool); 19] = [
+    let rows: [(&[u8], bool); 17] = [
         (b"(define (domain plain) (:requirements :typing))", false),
         (b"(define (domain x) (:predicates))", true),
         (b"(DEFINE (Domain X) (:Predicates (A)))", true),
@@ -113,14 +113,6 @@ fn domains_that_are_plain_and_not(rt: HostRuntime) -> Result<(), Fail> {
             true,
         ),
         (
-            b"(define (domain x) (:predicates (a)) (:durative-action b :parameters () :duration (= ?duration 0) :condition (and) :effect (and)))",
-            false,
-        ),
-        (
-            b"(define (domain x) (:predicates (a)) (:durative-action b :parameters () :duration (= ?duration 1000000000) :condition (and) :effect (and)))",
-            false,
-        ),
-        (
             b"(define (domain x) (:predicates (a)) (:durative-action b :parameters () :duration (= ?duration 1) :condition (and) :effect (over all (a))))",
             false,
         ),
@@ -129,6 +121,37 @@ fn domains_that_are_plain_and_not(rt: HostRuntime) -> Result<(), Fail> {
         let arena = Bump::new(rt.alloc());
         let found = domain_in(&rt, rt.alloc(), &arena, bytes)?.is_some();
         assert_eq!(rt; found, want);
+    }
+    Ok(())
+}
+
+#[test]
+fn durations_that_are_plain_and_not(rt: HostRuntime) -> Result<(), Fail> {
+    let rows: [(&[u8], Option<u32>); 11] = [
+        (b"4", Some(4)),
+        (b"007", Some(7)),
+        (b"4.0", Some(4)),
+        (b"8/2", Some(4)),
+        (b"999999999", Some(999_999_999)),
+        (b"1000000000", None),
+        (b"0", None),
+        (b"0.5", None),
+        (b"-1", None),
+        (b"-0", None),
+        (b"x", None),
+    ];
+    for (duration, want) in rows {
+        let mut bytes = Text::new(rt.alloc());
+        bytes.push(b"(define (domain x) (:predicates) (:durative-action b :parameters () :duration (= ?duration ")?;
+        bytes.push(duration)?;
+        bytes.push(b") :condition (and) :effect (and)))")?;
+        let arena = Bump::new(rt.alloc());
+        let Some(domain) = domain_in(&rt, rt.alloc(), &arena, bytes.as_slice())? else {
+            assert!(rt; want.is_none(), "at {duration:?}");
+            continue;
+        };
+        let action = domain.find_action(b"b".as_slice()).ok_or("no action")?;
+        assert_eq!(rt; domain.action(action).duration, want, "at {duration:?}");
     }
     Ok(())
 }

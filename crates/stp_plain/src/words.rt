@@ -1,13 +1,13 @@
 //! Words with a meaning: names, moments and durations.
 
-ghost use Rattle.std.specs.Prelude.{◌≡◌, ◌≤◌, true, length, option_map};
-ghost use Rattle.std.specs.List.{list_all};
+ghost use Rattle.std.specs.Prelude.{◌≡◌, option_map};
 ghost use Rattle.stp_text.specs.Tree.{view, views};
-ghost use Rattle.stp_plain.specs.Words.{name_of, name_alone, name_behind, moment_of, timed_of, is_digit, spelled_after, units_of, number_of_word, duration_of};
+ghost use Rattle.stp_plain.specs.Words.{name_of, name_alone, name_behind, moment_of, timed_of, duration_units, number_of_word, duration_of};
 
 use crate::forms::{first_of, form, is_word, items_of, only};
 use crate::names::is_name;
 use crate::part::Moment;
+use stp_frac::units::units;
 use stp_text::Sexpr;
 
 /// The name that a tree is.
@@ -71,51 +71,23 @@ pub fn timed_of<'a>(tree: &Sexpr<'a>) -> Option<(Moment, &'a Sexpr<'a>)>
     Some((moment, item))
 }
 
-/// Whether each of these bytes is a digit.
-fn all_digits(text: &[u8]) -> bool
-    ensures { result ≡ list_all is_digit text.now }
+/// The number of units that a word spells as a duration: at least 1.
+fn duration_units(text: &[u8]) -> Option<u32>
+    ensures { result ≡ duration_units text.now }
 {
-    for byte in text {
-        if !byte.is_ascii_digit() {
-            return false;
-        }
-    }
-    true
-}
-
-/// The number of at most 9 digits.
-fn spelled(text: &[u8]) -> u32
-    requires digits { list_all is_digit text.now ≡ true }
-    requires short { length text.now ≤ 9 }
-    ensures { result ≡ spelled_after 0 text.now }
-{
-    let mut number = 0u32;
-    for byte in text {
-        number = 10 * number + u32::from(*byte - b'0');
-    }
-    number
-}
-
-/// The number of units that a word spells: 1 to 9 digits with a value of at least 1.
-fn units_of(text: &[u8]) -> Option<u32>
-    ensures { result ≡ units_of text.now }
-{
-    if text.len() > 9 || !all_digits(text) {
+    let count = units(text)?;
+    if count == 0 {
         return None;
     }
-    let units = spelled(text);
-    if units == 0 {
-        return None;
-    }
-    Some(units)
+    Some(count)
 }
 
-/// The number of units that a tree spells.
+/// The number of units that a tree spells as a duration.
 fn number_of_word(tree: &Sexpr<'_>) -> Option<u32>
     ensures { result ≡ number_of_word (view tree.now) }
 {
     match tree {
-        Sexpr::Word { text, .. } => units_of(*text),
+        Sexpr::Word { text, .. } => duration_units(*text),
         Sexpr::Items { .. } => None,
     }
 }

@@ -1,5 +1,4 @@
 pub mod Places
-pub mod Digits
 pub mod Cuts
 pub mod Words
 pub mod Forms

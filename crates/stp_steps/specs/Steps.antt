@@ -64,7 +64,7 @@ steps_of bytes = do
   steps ← steps_in (lines bytes)
   few steps
 
--- the numbers of a step have at most nine digits, and its name has at most so many bytes
+-- the numbers of a step are at most 999,999,999, and its name has at most so many bytes
 pub record IsBounded (most : ℕ) (step : StepLine) : Type 0 where
   pub start : step.start ≤ 999999999
   pub bracket : IfSome step.bracket (λ n. n ≤ 999999999)

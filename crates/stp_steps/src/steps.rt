@@ -98,7 +98,7 @@ mod tests {
 
     #[test]
     fn reads_a_line(rt: HostRuntime) -> Result<(), Fail> {
-        let rows: [(&[u8], Option<(u32, &[u8], Option<u32>)>); 22] = [
+        let rows: [(&[u8], Option<(u32, &[u8], Option<u32>)>); 26] = [
             (b"0: (make) [4]", Some((0, b"make", Some(4)))),
             (b"0:(make)[4]", Some((0, b"make", Some(4)))),
             (b" 0 :\t( make ) [ 4 ] \r\n", Some((0, b"make", Some(4)))),
@@ -110,6 +110,9 @@ mod tests {
                 b"999999999:(see)[999999999]",
                 Some((999_999_999, b"see", Some(999_999_999))),
             ),
+            (b"4.0: (see)", Some((4, b"see", None))),
+            (b"8/2: (see) [6/2]", Some((4, b"see", Some(3)))),
+            (b"0: (make) [4.0]", Some((0, b"make", Some(4)))),
             (b"1 (see)", None),
             (b"0: (see) [*]", None),
             (b"0: (see) [3,5]", None),
@@ -123,6 +126,7 @@ mod tests {
             (b"0: (a) 1: (b)", None),
             (b"1234567890: (see)", None),
             (b"0.5: (see)", None),
+            (b"-0: (see)", None),
             (b"0: (see)\n-", None),
         ];
         for (bytes, want) in rows {

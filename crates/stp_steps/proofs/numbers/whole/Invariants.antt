@@ -1,6 +1,0 @@
-use Rattle.std.proofs.Common.{◌≡◌, ◌<◌, ◌^◌, drop}
-use Rattle.stp_steps.specs.Numbers.{digits_after}
-use Rattle.stp_steps.proofs.numbers.whole.Given as goal
-
-abbrev pub invariant-loop-byte : goal.invariant-loop-byte
-invariant-loop-byte l = (digits_after l.number (drop l.byte-index l.word) ≡ digits_after 0 l.word) × (l.number < 10 ^ l.byte-index)
