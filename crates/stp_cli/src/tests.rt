@@ -41,7 +41,7 @@ fn store(alloc: Global, domain: &[u8], problem: &[u8], plan: &[u8]) -> Result<Me
 fn verdicts(rt: HostRuntime) -> Result<(), Fail> {
     let alloc = rt.alloc();
     let strong: &[u8] = b"strong\nsteps 2 uncertain 0 grid 1\n";
-    let rows: [(&[u8], &[u8], &[u8], &[u8], Status); 22] = [
+    let rows: [(&[u8], &[u8], &[u8], &[u8], Status); 27] = [
         (
             PLAIN,
             TASK,
@@ -55,6 +55,41 @@ fn verdicts(rt: HostRuntime) -> Result<(), Fail> {
             b"0: (MAKE) [4] ; a comment\r\n\n5: (see)\n",
             strong,
             Status::Done,
+        ),
+        (
+            PLAIN,
+            TASK,
+            b"0: (make) [4.0]\n5: (see)",
+            strong,
+            Status::Done,
+        ),
+        (
+            PLAIN,
+            TASK,
+            b"0/7: (make) [8/2]\n10/2: (see)",
+            strong,
+            Status::Done,
+        ),
+        (
+            PLAIN,
+            TASK,
+            b"0: (make) [4.5]\n5: (see)",
+            b"refused plan N00 at 0\n",
+            Status::Refused,
+        ),
+        (
+            PLAIN,
+            TASK,
+            b"-0: (make) [4]\n5: (see)",
+            b"refused plan N00 at 0\n",
+            Status::Refused,
+        ),
+        (
+            PLAIN,
+            TASK,
+            b"1/2: (make) [4]\n5: (see)",
+            b"refused plan N00 at 0\n",
+            Status::Refused,
         ),
         (
             PLAIN,
