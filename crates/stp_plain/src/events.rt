@@ -36,7 +36,7 @@ fn with_events<'a>(
 {
     let start = event_of(alloc, arena, &raw.start)?;
     let finish = event_of(alloc, arena, &raw.finish)?;
-    let over = conjunction(arena, raw.over)?;
+    let over = conjunction(alloc, arena, raw.over)?;
     Ok(Action {
         name: raw.name,
         duration: raw.duration,

@@ -42,7 +42,7 @@ fn problem_of<'a>(
 {
     let raw = raw_problem(arena, domain.name, &domain.predicates, tree)?;
     let initial = row_of(alloc, domain.atoms(), raw.initial)?;
-    let goal = conjunction(arena, raw.goal)?;
+    let goal = conjunction(alloc, arena, raw.goal)?;
     Ok(Problem { initial, goal })
 }
 
