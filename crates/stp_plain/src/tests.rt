@@ -142,7 +142,9 @@ fn durations_that_are_plain_and_not(rt: HostRuntime) -> Result<(), Fail> {
     ];
     for (duration, want) in rows {
         let mut bytes = Text::new(rt.alloc());
-        bytes.push(b"(define (domain x) (:predicates) (:durative-action b :parameters () :duration (= ?duration ")?;
+        bytes.push(
+            b"(define (domain x) (:predicates) (:durative-action b :parameters () :duration (= ?duration ",
+        )?;
         bytes.push(duration)?;
         bytes.push(b") :condition (and) :effect (and)))")?;
         let arena = Bump::new(rt.alloc());

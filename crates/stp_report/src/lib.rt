@@ -4,7 +4,5 @@
 pub mod answer;
 pub mod print;
 
-pub use answer::Answer;
-pub use answer::Code;
-pub use answer::FileName;
+pub use answer::{Answer, Code, FileName};
 pub use print::print_answer;
