@@ -5,3 +5,4 @@ pub mod Planned
 pub mod Case
 pub mod Verdict
 pub mod Outcome
+pub mod Exit

@@ -1,20 +1,41 @@
 //! How a call of the program ended.
 
-/// How a call of the program ended; the number is the exit status.
+ghost use Rattle.std.specs.Prelude.{◌≡◌};
+
+/// How a call of the program ended.
 #[derive(Clone, Copy, Debug, PartialEq, Eq)]
 pub enum Status {
     /// The command was carried out, and its answer is the hoped-for one.
-    Done = 0,
+    Done,
     /// The command was carried out, and the answer is no.
-    No = 1,
+    No,
     /// An input was refused.
-    Refused = 2,
+    Refused,
     /// The search's budget was spent.
-    BudgetSpent = 3,
+    BudgetSpent,
     /// A file could not be read, or the answer could not be written.
-    OutsideFault = 4,
+    OutsideFault,
     /// Memory was refused, and nothing was written.
-    Memory = 5,
+    Memory,
     /// The words are no command.
-    Usage = 6,
+    Usage,
+}
+
+impl Status {
+    ghost use Rattle.stp_cli.specs.Exit.{exit_number};
+
+    /// The number that the process ends with.
+    pub fn exit_number(self) -> u8
+        ensures { result ≡ exit_number self }
+    {
+        match self {
+            Status::Done => 0,
+            Status::No => 1,
+            Status::Refused => 2,
+            Status::BudgetSpent => 3,
+            Status::OutsideFault => 4,
+            Status::Memory => 5,
+            Status::Usage => 6,
+        }
+    }
 }

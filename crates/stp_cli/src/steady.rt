@@ -1,6 +1,8 @@
 //! The top call where nothing outside fails.
 
-ghost use Rattle.std.specs.Prelude.{◌≡◌};
+ghost use Rattle.std.specs.Prelude.{◌≡◌, true, Some, None, map, string_bytes};
+ghost use Rattle.stp_io.specs.Steady.{content_of};
+ghost use Rattle.stp_cli.specs.Outcome.{IsOutcome};
 
 use crate::status::Status;
 use crate::top::run;
@@ -14,7 +16,8 @@ pub fn run_steadily(
     store: &mut SteadyStore,
     sink: &mut SteadySink,
 ) -> Status
-    ensures { result ≡ Status.OutsideFault → ⊥ }
+    ensures outcome { IsOutcome (record { told = Some (λ name. Some (content_of store.old name)); steady = λ name. true; faults = 0; faults_after = 0 }) (record { written = None; written_after = None; faults = 0; faults_after = 0 }) (map string_bytes words.now) result }
+    ensures never { result ≡ Status.OutsideFault → ⊥ }
 {
     run(alloc, words, store, sink)
 }

@@ -1,6 +1,6 @@
 //! Worked rows of the top call, over stores and sinks in memory.
 
-use crate::{Status, run};
+use crate::{Status, run, run_steadily};
 use std::alloc::Global;
 use std::test::Fail;
 use stp_io::{MemorySink, MemoryStore, SteadySink, SteadyStore};

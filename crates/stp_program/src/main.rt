@@ -41,7 +41,7 @@ fn main(rt: HostRuntime) -> ExitCode {
             let mut store = FileStore::new(rt);
             let mut sink = OutSink::new(rt);
             let status = run(rt.alloc(), words.as_slice(), &mut store, &mut sink);
-            ExitCode::from(status as u8)
+            ExitCode::from(status.exit_number())
         }
         Err(status) => ExitCode::from(status),
     }

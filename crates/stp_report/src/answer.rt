@@ -13,21 +13,21 @@ pub enum FileName {
 /// The name of a refusal.
 #[derive(Clone, Copy, Debug, PartialEq, Eq)]
 pub enum Code {
-    /// A file has more than 1,048,576 bytes.
+    /// A file that is too long.
     F01,
-    /// A byte outside comments is neither white nor from 33 to 126.
+    /// A byte that is no text.
     T01,
-    /// A `)` has no `(`.
+    /// A `)` too many.
     T02,
-    /// A `(` is the 101st that is unclosed.
+    /// Lists nested too deeply.
     T03,
-    /// A `(` has no `)`.
+    /// A list that is not closed.
     T04,
-    /// A word has more than 100 bytes.
+    /// A word that is too long.
     T05,
-    /// The file is not exactly one list.
+    /// Not exactly one list.
     T06,
-    /// A file is not plain.
+    /// Not a plain file.
     N00,
 }
 
