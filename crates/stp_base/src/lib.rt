@@ -13,3 +13,6 @@ pub use list::List;
 pub use memory::Memory;
 pub use row::StateRow;
 pub use text::Text;
+
+#[cfg(test)]
+mod tests;
