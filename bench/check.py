@@ -85,6 +85,23 @@ def comment(size):
     return domain, problem, plan + ";" + "x" * (size - len(plan) - 1)
 
 
+def guarded(steps):
+    """So many steps that all run side by side, each with over-all conditions that fill the file together."""
+    each = max(1, MOST // 17 // steps - 12)
+    needs = " ".join(f"(over all (p{i % 10}))" for i in range(each))
+    actions = "\n".join(
+        f"(:durative-action act{i} :parameters () :duration (= ?duration 1000) :condition (and {needs}) :effect (and))"
+        for i in range(steps)
+    )
+    atoms = " ".join(f"(p{i})" for i in range(10))
+    plan = "\n".join(f"{i}: (act{i}) [1000]" for i in range(steps)) + "\n"
+    return (
+        f"(define (domain guarded) (:predicates {atoms})\n{actions})\n",
+        f"(define (problem y) (:domain guarded) (:init {atoms}) (:goal (and)))\n",
+        plan,
+    )
+
+
 def seconds(files, runs):
     with tempfile.TemporaryDirectory() as folder:
         names = []
@@ -119,6 +136,7 @@ def main():
     print("user time, and the factor from the row before")
     table("a chain of steps", chain, [50, 100, 200, 400, 500], runs)
     table("steps of one moment", crowd, [50, 100, 200, 400, 500], runs)
+    table("steps side by side with long over-all conditions", guarded, [50, 100, 200, 400, 500], runs)
     table("bytes of a domain", wide, [131_072, 262_144, 524_288, MOST], runs)
     table("bytes of one event", long_event, [131_072, 262_144, 524_288, MOST], runs)
     table("bytes of a plan's comment", comment, [131_072, 262_144, 524_288, MOST], runs)
