@@ -2,6 +2,7 @@
 
 use crate::{Status, run, run_steadily};
 use std::alloc::Global;
+use std::process::Abort;
 use std::test::Fail;
 use stp_io::{MemorySink, MemoryStore, SteadySink, SteadyStore};
 
@@ -246,35 +247,59 @@ fn verdicts(rt: HostRuntime) -> Result<(), Fail> {
     Ok(())
 }
 
+/// So many bytes.
+fn repeated(alloc: Global, byte: u8, count: usize) -> Result<Vec<u8>, Fail> {
+    let mut bytes = Vec::new(alloc);
+    for _ in 0..count {
+        bytes.push(byte)?;
+    }
+    Ok(bytes)
+}
+
+/// So many lists inside one another.
+fn nested(alloc: Global, depth: usize) -> Result<Vec<u8>, Fail> {
+    let mut bytes = repeated(alloc, b'(', depth)?;
+    let closing = repeated(alloc, b')', depth)?;
+    bytes.extend_from_slice(closing.as_slice())?;
+    Ok(bytes)
+}
+
+fn refuses(rt: &impl Abort, alloc: Global, domain: &[u8], text: &[u8]) -> Result<(), Fail> {
+    let words = words(alloc, &["stp", "check", "d", "p", "l"])?;
+    let mut store = store(alloc, domain, TASK, b"")?;
+    let mut sink = MemorySink::new(alloc, 1000, 1000)?;
+    let status = run(alloc, words.as_slice(), &mut store, &mut sink);
+    assert_eq!(rt; status, Status::Refused);
+    assert_eq!(rt; sink.bytes(), text);
+    Ok(())
+}
+
 #[test]
 fn long_and_deep_files(rt: HostRuntime) -> Result<(), Fail> {
     let alloc = rt.alloc();
-    let words = words(alloc, &["stp", "check", "d", "p", "l"])?;
-    let open = vec![in alloc; b'('; 101]?;
-    let mut deep = vec![in alloc; b')'; 101]?;
-    let mut nested = Vec::new(alloc);
-    nested.extend_from_slice(open.as_slice())?;
-    nested.extend_from_slice(deep.as_slice())?;
-    deep.clear();
-    deep.extend_from_slice(&nested.as_slice()[1..201])?;
-    let spaces = vec![in alloc; b' '; 1_048_577]?;
-    let rows: [(&[u8], &[u8]); 4] = [
-        (spaces.as_slice(), b"refused domain F01 at 1048576\n"),
-        (
-            &spaces.as_slice()[..1_048_576],
-            b"refused domain T06 at 1048576\n",
-        ),
-        (nested.as_slice(), b"refused domain T03 at 100\n"),
-        (deep.as_slice(), b"refused domain N00 at 0\n"),
-    ];
-    for (domain, text) in rows {
-        let mut store = store(alloc, domain, TASK, b"")?;
-        let mut sink = MemorySink::new(alloc, 1000, 1000)?;
-        let status = run(alloc, words.as_slice(), &mut store, &mut sink);
-        assert_eq!(rt; status, Status::Refused);
-        assert_eq!(rt; sink.bytes(), text);
-    }
-    Ok(())
+    let longer = repeated(alloc, b' ', 1_048_577)?;
+    refuses(
+        &rt,
+        alloc,
+        longer.as_slice(),
+        b"refused domain F01 at 1048576\n",
+    )?;
+    let longest = repeated(alloc, b' ', 1_048_576)?;
+    refuses(
+        &rt,
+        alloc,
+        longest.as_slice(),
+        b"refused domain T06 at 1048576\n",
+    )?;
+    let deeper = nested(alloc, 101)?;
+    refuses(
+        &rt,
+        alloc,
+        deeper.as_slice(),
+        b"refused domain T03 at 100\n",
+    )?;
+    let deepest = nested(alloc, 100)?;
+    refuses(&rt, alloc, deepest.as_slice(), b"refused domain N00 at 0\n")
 }
 
 #[test]
