@@ -3,7 +3,7 @@ use Rattle.std.proofs.Common.{◌≡◌, ℕ, List, length, Option, Some, None, 
 use Rattle.std.specs.Prelude.{option_map}
 use Rattle.stp_text.specs.Tree.{Tree}
 use Rattle.stp_text.specs.Reading.{tree_of}
-use Rattle.stp_happen.specs.Boxes.{PlainStep, PlainBox}
+use Rattle.stp_happen.specs.Boxes.{PlainStep}
 use Rattle.stp_plain.specs.Plain.{PlainDomain, PlainProblem, plain_domain, plain_problem}
 use Rattle.stp_plain.specs.Meaning.{DomainMeaning, ProblemMeaning, meaning_of_domain, meaning_of_problem}
 use Rattle.stp_plain.proofs.Callers.{read_from, none_from}

@@ -1,6 +1,6 @@
 -- Files that were loaded one after another, and the answer where the last was not.
-use Rattle.std.proofs.Common.{◌≡◌, ℕ, ◌<◌, ◌≤◌, Bool, true, false, List, [], ◌∷◌, length, Option, Some, None, refl, sym, ◌∙◌, arith, nat_lt, inl, inr}
-use Rattle.std.specs.Prelude.{IfSome, All}
+use Rattle.std.proofs.Common.{◌≡◌, ℕ, ◌≤◌, Bool, true, false, List, [], ◌∷◌, length, Option, Some, None, refl, sym, ◌∙◌, arith, nat_lt, inl, inr}
+use Rattle.std.specs.Prelude.{IfSome}
 use Rattle.std.proofs.lemmas.Bool.Decides.{nat_tests}
 use Rattle.std.proofs.lemmas.List.Elements.{All-cons, All-nil}
 use Rattle.stp_io.specs.Store.{HasRisen, IsTooLong}
@@ -11,7 +11,7 @@ use Rattle.stp_report.specs.declared.answer.Answer.TheVariants as answers
 use Rattle.stp_report.specs.declared.answer.Code.TheVariants.{F01}
 use Rattle.stp_report.specs.declared.answer.FileName.TheVariants as files
 use Rattle.stp_cli.specs.Words.{Names}
-use Rattle.stp_cli.specs.Outcome.{StoreCall, IsAnswer, IsAnswerOn, IsAllowedTo, IsFine, AreFine, IsUnloaded}
+use Rattle.stp_cli.specs.Outcome.{StoreCall, IsAnswerOn, IsAllowedTo, IsFine, AreFine, IsUnloaded}
 
 -- what a store tells of a file that was loaded
 abbrev pub IsLoadedAs : StoreCall → List ℕ → List ℕ → Type 0

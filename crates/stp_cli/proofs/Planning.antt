@@ -1,6 +1,6 @@
 -- The steps of lines, one line after another.
 use Rattle.std.proofs.Common.{◌≡◌, ℕ, ◌<◌, ◌+◌, List, [], ◌∷◌, ◌++◌, Option, Some, None, length, map, drop, get_or, refl, ap, sym, ◌∙◌, append_assoc}
-use Rattle.std.proofs.lemmas.List.{append-nil, drop_more, drop_all, map-append}
+use Rattle.std.proofs.lemmas.List.{drop_more}
 use Rattle.stp_happen.specs.Boxes.{PlainStep}
 use Rattle.stp_plain.specs.Forms.{before}
 use Rattle.stp_plain.specs.Meaning.{DomainMeaning}

@@ -1,8 +1,7 @@
-use Rattle.std.proofs.Common.{◌≡◌, ◌∙◌, sym, ap, length, Some, Err, Ok}
-use Rattle.std.specs.Prelude.{option_map, All}
+use Rattle.std.proofs.Common.{◌≡◌, ◌∙◌, sym, ap, length, Err, Ok}
+use Rattle.std.specs.Prelude.{option_map}
 use Rattle.stp_text.specs.Tree.{view}
 use Rattle.stp_happen.specs.Boxes.{steps_of}
-use Rattle.stp_happen.specs.SoundBox.{IsBoxStep}
 use Rattle.stp_plain.specs.Meaning.{meaning_of_domain}
 use Rattle.stp_plain.specs.Plain.{plain_domain}
 use Rattle.stp_plain.specs.Views.{view_of_domain}
@@ -10,7 +9,6 @@ use Rattle.stp_plain.specs.ProblemViews.{view_of_problem}
 use Rattle.stp_plain.proofs.Callers.{none_from}
 use Rattle.stp_report.specs.declared.answer.Code.TheVariants.{N00}
 use Rattle.stp_report.specs.declared.answer.FileName.TheVariants as files
-use Rattle.stp_cli.specs.Planned.{planned}
 use Rattle.stp_cli.specs.Refusals.{refusal}
 use Rattle.stp_cli.proofs.Casing.{no_domain, no_problem_read, no_plan_read, case_read, length_read, same_refusal}
 use Rattle.stp_cli.proofs.case.plain_case.Goals as goal

@@ -1,4 +1,4 @@
-use Rattle.std.proofs.Common.{◌≡◌, ◌∙◌}
+use Rattle.std.proofs.Common.{◌∙◌}
 use Rattle.std.proofs.lemmas.Result.{IfOk-weaker}
 use Rattle.stp_text.specs.Tree.{view}
 use Rattle.stp_cli.proofs.Casing.{refused_domain, refused_problem, by_trees, refused_alike}

@@ -1,4 +1,4 @@
-use Rattle.std.proofs.Common.{◌≡◌, sym, ap, refl, ◌∙◌, length}
+use Rattle.std.proofs.Common.{sym, ap, refl, ◌∙◌, length}
 use Rattle.std.proofs.lemmas.List.{length-map}
 use Rattle.stp_happen.specs.Boxes.{plain_box, steps_of, step_of}
 use Rattle.stp_happen.specs.Runs.{plain_run}
