@@ -4,3 +4,9 @@ pub mod Among
 pub mod EventLists
 pub mod Equations
 pub mod Reading
+pub mod Viewing
+pub mod Shapes
+pub mod Meaning
+pub mod Kept
+pub mod FoldedParts
+pub mod Images

@@ -4,6 +4,7 @@ ghost use Rattle.std.specs.Prelude.{◌≡◌, ℕ, Bool, true, length, IfOk};
 ghost use Rattle.std.specs.List.{list_all};
 ghost use Rattle.stp_cond.specs.Truth.{truth, state_of_row, is_below, meaning_of, reads_only};
 ghost use Rattle.stp_cond.specs.Views.{atoms_of};
+ghost use Rattle.stp_cond.specs.Formulas.{view, Negation};
 
 use bumpalo::Bump;
 use std::alloc::Global;
@@ -67,4 +68,12 @@ pub fn conjunction<'a>(
     let slice = arena.try_alloc_slice_copy(&parts)?;
     let cond = arena.try_alloc(Cond::And(slice))?;
     Ok(cond)
+}
+
+/// The negation of a formula.
+pub fn negate<'a>(arena: &'a Bump, cond: &Cond<'a>) -> Result<Cond<'a>, Memory>
+    ensures { IfOk result (λ r. view r ≡ Negation (view cond.now)) }
+{
+    let part = arena.try_alloc(*cond)?;
+    Ok(Cond::Not(part))
 }
