@@ -17,3 +17,4 @@ pub mod NoFault
 pub mod Through
 pub mod SoundRuns
 pub mod FirstFaults
+pub mod LeastFailures

@@ -9,3 +9,4 @@ pub mod Boxes
 pub mod Moves
 pub mod Orders
 pub mod Times
+pub mod LeastFailure

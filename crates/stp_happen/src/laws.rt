@@ -1,6 +1,7 @@
 //! Laws of runs and boxes: what moving moments, finer grids and the order of entries leave as it is.
 
 ghost use Rattle.stp_happen.specs.Moves.{MovedRunsAgree, FinerRunsAgree, FinerBoxesMakeFinerRuns, CertainBoxesAreStrong};
+ghost use Rattle.stp_happen.specs.LeastFailure.{LeastFailureIsOne};
 ghost use Rattle.stp_happen.specs.Orders.{OrderIsFree, FirstFaultIsFreeOfOrder};
 
 /// A run executes exactly where it does with its moments moved in order.
@@ -31,4 +32,9 @@ pub fn order_is_free()
 /// Nor does which fault is its first.
 pub fn first_fault_is_free_of_order()
     ensures { FirstFaultIsFreeOfOrder }
+{}
+
+/// A box has at most one least failure.
+pub fn least_failure_is_one()
+    ensures { LeastFailureIsOne }
 {}
