@@ -1,0 +1,5 @@
+use Rattle.stp_strength.proofs.WellMade.{box_check_decides}
+use Rattle.stp_strength.proofs.laws.box_check_decides.Goals as goal
+
+pub returns : goal.returns
+returns c = box_check_decides

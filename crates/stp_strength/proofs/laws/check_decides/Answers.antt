@@ -1,0 +1,5 @@
+use Rattle.stp_strength.proofs.Gaps.{check_decides}
+use Rattle.stp_strength.proofs.laws.check_decides.Goals as goal
+
+pub returns : goal.returns
+returns c = check_decides

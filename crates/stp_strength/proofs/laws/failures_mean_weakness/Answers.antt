@@ -1,0 +1,5 @@
+use Rattle.stp_strength.proofs.Gaps.{failures_mean_weakness}
+use Rattle.stp_strength.proofs.laws.failures_mean_weakness.Goals as goal
+
+pub returns : goal.returns
+returns c = failures_mean_weakness

@@ -1,0 +1,14 @@
+pub mod Windows
+pub mod Facts
+pub mod Choices
+pub mod WindowLaws
+pub mod Steps
+pub mod Moved
+pub mod Strength
+pub mod Failures
+pub mod Checks
+pub mod Parts
+pub mod Narrower
+pub mod Splitting
+pub mod Boxed
+pub mod Views

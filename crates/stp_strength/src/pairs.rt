@@ -1,0 +1,78 @@
+//! Which steps of one action stay apart, and which events whose windows meet do not interfere.
+
+ghost use Rattle.std.specs.Prelude.{◌≡◌};
+ghost use Rattle.std.specs.List.{list_all};
+ghost use Rattle.stp_strength.specs.Failures.{all_pairs_pass, stay_apart as stay_apart_lem, stay_calm as stay_calm_lem, may_meet as may_meet_lem};
+ghost use Rattle.stp_strength.specs.Views.{point_of, points_of, span_of, spans_of};
+
+use crate::windows::{NumberedStep, Window};
+use stp_cond::interfere;
+
+/// Whether two steps, if they are of one action, never run at one moment.
+fn stay_apart(one: &NumberedStep<'_>, other: &NumberedStep<'_>) -> bool
+    ensures { result ≡ stay_apart_lem (span_of one.now) (span_of other.now) }
+{
+    !(one.number < other.number && one.step.key == other.step.key)
+        || one.step.high < other.step.start
+        || other.step.high < one.step.start
+}
+
+fn apart_from(one: &NumberedStep<'_>, steps: &[NumberedStep<'_>]) -> bool
+    ensures { result ≡ list_all (stay_apart_lem (span_of one.now)) (spans_of steps.now) }
+{
+    for other in steps {
+        if !stay_apart(one, other) {
+            return false;
+        }
+    }
+    true
+}
+
+/// Whether no two steps of one action ever run at one moment.
+pub(crate) fn all_apart(steps: &[NumberedStep<'_>]) -> bool
+    ensures { result ≡ all_pairs_pass stay_apart_lem (spans_of steps.now) }
+{
+    for one in steps {
+        if !apart_from(one, steps) {
+            return false;
+        }
+    }
+    true
+}
+
+/// Whether two windows have a common moment.
+fn may_meet(one: &Window<'_>, other: &Window<'_>) -> bool
+    ensures { result ≡ may_meet_lem (point_of one.now) (point_of other.now) }
+{
+    one.low <= other.high && other.low <= one.high
+}
+
+/// Whether two events of different steps, if their windows have a common moment, do not interfere.
+fn stay_calm(one: &Window<'_>, other: &Window<'_>) -> bool
+    ensures { result ≡ stay_calm_lem (point_of one.now) (point_of other.now) }
+{
+    !(one.step < other.step && may_meet(one, other)) || !interfere(&one.event, &other.event)
+}
+
+fn calm_with(one: &Window<'_>, windows: &[Window<'_>]) -> bool
+    ensures { result ≡ list_all (stay_calm_lem (point_of one.now)) (points_of windows.now) }
+{
+    for other in windows {
+        if !stay_calm(one, other) {
+            return false;
+        }
+    }
+    true
+}
+
+/// Whether no two events of different steps whose windows have a common moment interfere.
+pub(crate) fn all_calm(windows: &[Window<'_>]) -> bool
+    ensures { result ≡ all_pairs_pass stay_calm_lem (points_of windows.now) }
+{
+    for one in windows {
+        if !calm_with(one, windows) {
+            return false;
+        }
+    }
+    true
+}
