@@ -1,0 +1,10 @@
+pub mod Cutting
+pub mod Cuts
+pub mod Words
+pub mod Following
+pub mod Forms
+pub mod LineByLine
+pub mod Signs
+pub mod Joining
+pub mod Printed
+pub mod Lawful

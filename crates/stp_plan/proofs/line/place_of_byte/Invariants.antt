@@ -1,0 +1,7 @@
+-- The byte is not in front of this place.
+use Rattle.std.proofs.Common.{◌≡◌, ◌==◌, ◌+◌, drop}
+use Rattle.std.specs.List.{position_or_len}
+use Rattle.stp_plan.proofs.line.place_of_byte.Given as goal
+
+abbrev pub invariant-loop-place : goal.invariant-loop-place
+invariant-loop-place l = l.place + position_or_len (λ b. b == l.byte) (drop l.place l.text) ≡ position_or_len (λ b. b == l.byte) l.text

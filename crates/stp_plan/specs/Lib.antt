@@ -1,0 +1,10 @@
+pub mod Bytes
+pub mod Parts
+pub mod Lines
+pub mod Names
+pub mod Numbers
+pub mod Steps
+pub mod Plans
+pub mod Printing
+pub mod Views
+pub mod Laws
