@@ -1,0 +1,4 @@
+mod Going
+mod Choices
+mod Sections
+mod ProblemSections

@@ -1,0 +1,10 @@
+pub mod Forms
+pub mod Keys
+pub mod Then
+pub mod Actions
+pub mod Domain
+pub mod Problem
+pub mod Views
+pub mod ProblemViews
+pub mod Laws
+pub mod ProblemLaws
