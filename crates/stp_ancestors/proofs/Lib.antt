@@ -1,0 +1,9 @@
+pub mod Pigeons
+pub mod Above
+pub mod Deciding
+pub mod Given
+pub mod Depths
+pub mod Counts
+pub mod Marking
+pub mod Made
+pub mod Asking
