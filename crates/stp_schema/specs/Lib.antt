@@ -1,0 +1,6 @@
+pub mod Rows
+pub mod Known
+pub mod Formula
+pub mod Expression
+pub mod Schemas
+pub mod Views

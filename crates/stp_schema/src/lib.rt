@@ -1,0 +1,18 @@
+//! Domains and problems as they are read: typed, and lifted over the parameters of actions.
+#![tactic(auto)]
+
+pub mod declared;
+pub mod domain;
+pub mod expr;
+pub mod lifted;
+pub mod problem;
+pub mod rows;
+
+pub use declared::{Declared, Objects};
+pub use domain::{Domain, Schema, Timing};
+pub use expr::Expr;
+pub use lifted::{Lifted, LiftedAtom, Term};
+pub use problem::{Fact, Given, Problem};
+pub use rows::{ObjectRow, Symbol, TypeRow};
+pub use stp_names::Names;
+pub use stp_offence::Code;
