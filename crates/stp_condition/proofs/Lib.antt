@@ -1,0 +1,4 @@
+pub mod Then
+pub mod Made
+pub mod Reading
+pub mod Typed

@@ -1,0 +1,4 @@
+pub mod Variables
+pub mod Conditions
+pub mod Whole
+pub mod Typed
