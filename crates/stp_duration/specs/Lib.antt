@@ -1,0 +1,3 @@
+pub mod Expressions
+pub mod Durations
+pub mod Views

@@ -1,0 +1,4 @@
+pub mod Gathering
+pub mod Saying
+mod Reading
+mod Typed

@@ -1,0 +1,4 @@
+pub mod Forms
+pub mod Timed
+pub mod Views
+pub mod Typed
