@@ -1,0 +1,4 @@
+pub mod Cuts
+pub mod Members
+pub mod AllBindings
+pub mod First

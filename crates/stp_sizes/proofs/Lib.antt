@@ -1,0 +1,4 @@
+pub mod Counts
+pub mod Leading
+pub mod Left
+pub mod Moving
