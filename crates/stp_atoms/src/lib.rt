@@ -1,0 +1,10 @@
+//! Ground atoms with their numbers.
+#![tactic(auto)]
+
+pub mod asked;
+pub mod table;
+
+pub use table::AtomTable;
+
+#[cfg(test)]
+mod tests;
