@@ -1,0 +1,4 @@
+pub mod Bodies
+pub mod BodyViews
+pub mod Schemas
+pub mod Reading
