@@ -19,3 +19,4 @@ pub mod StepLoops
 pub mod Values
 pub mod Checked
 pub mod Vectors
+mod WorkedSteps

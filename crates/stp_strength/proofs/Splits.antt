@@ -5,7 +5,6 @@ use Rattle.std.specs.List.{list_any, list_all}
 use Rattle.std.proofs.lemmas.Bool.{cases_Bool}
 use Rattle.std.proofs.lemmas.List.{map-append}
 use Rattle.std.proofs.lemmas.List.Folds.{list_all-append}
-use Rattle.std.proofs.lemmas.List.Elements.{Contains-append_cases}
 use Rattle.stp_cond.specs.Atoms.{has}
 use Rattle.stp_happen.proofs.Members.{here, there, member_cases, member_nil, member_map, mapped_member, each_pair, same_tests, and_left, and_right, and_both, passing_member, any_passes, each_passes, all_pass, member_of_kept}
 use Rattle.stp_strength.specs.Windows.{Point, OpenSpan, WindowBox, IsProper, ArePartedIfOne}

@@ -10,4 +10,6 @@ mod windows;
 pub use check::is_sound;
 
 #[cfg(test)]
+mod rows;
+#[cfg(test)]
 mod tests;

@@ -211,7 +211,7 @@ fn with_duration(alloc: Global, vector: &[u128], duration: u128) -> Result<Vec<u
 
 /// The first in dictionary order of the failing vectors that begin with these durations, which are those of
 /// the steps before a place.
-fn first_failing(
+pub(crate) fn first_failing(
     alloc: Global,
     boxed: &BoxRun<'_>,
     at: usize,
@@ -239,7 +239,12 @@ fn first_failing(
 }
 
 /// Whether all vectors on a grid that is so many times as fine give this verdict.
-fn is_found(alloc: Global, boxed: &BoxRun<'_>, factor: u128, strong: bool) -> Result<bool, Memory>
+pub(crate) fn is_found(
+    alloc: Global,
+    boxed: &BoxRun<'_>,
+    factor: u128,
+    strong: bool,
+) -> Result<bool, Memory>
     requires factor { 1 ≤ factor }
     requires grid { boxed.now.grid * factor ≤ 999999999 }
 {
