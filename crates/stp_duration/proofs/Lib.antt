@@ -1,1 +1,2 @@
 mod Equations
+pub mod Typed

@@ -1,3 +1,4 @@
 pub mod Expressions
 pub mod Durations
 pub mod Views
+pub mod Typed

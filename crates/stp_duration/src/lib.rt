@@ -4,6 +4,7 @@
 pub mod duration;
 pub mod expression;
 pub mod join;
+pub mod laws;
 
 pub use duration::{Bounds, read_duration};
 pub use expression::read_expression;
