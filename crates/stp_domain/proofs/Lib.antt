@@ -1,2 +1,6 @@
 mod Lists
 mod Phases
+mod Found
+mod Placing
+mod Members
+mod Typed

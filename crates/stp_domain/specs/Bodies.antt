@@ -1,5 +1,5 @@
 -- What an action says besides its name and its parameters.
-use Rattle.std.specs.Prelude.{ℕ, List, [], ◌∷◌, Option, Some, None}
+use Rattle.std.specs.Prelude.{List, Option, Some, None}
 use Rattle.stp_text.specs.Tree.{Tree}
 use Rattle.stp_offence.specs.Read.{Read, fine, map_read, pair_read}
 use Rattle.stp_section.specs.Actions.{Action, Timing, Instant, Controlled, Uncertain}

@@ -1,10 +1,12 @@
 //! Domains, read or refused.
 
-use crate::{ReadFault, read_domain};
+use crate::{ReadFault, read_condition, read_domain};
 use bumpalo::Bump;
 use std::alloc::Global;
 use std::test::Fail;
+use stp_base::{Memory, ObjectId, Text};
 use stp_offence::Code;
+use stp_schema::{Lifted, ObjectRow, Term};
 use stp_text::tree;
 
 const ROVER: &[u8] = b"(define (domain rover)
@@ -27,6 +29,65 @@ const ROVER: &[u8] = b"(define (domain rover)
   :condition (and (over all (at ?r ?p)) (over all (still ?r)))
   :effect (at end (seen ?p))))";
 
+const LAB: &[u8] = b"(define (domain lab)
+ (:predicates (f) (g) (h))
+ (:action see-f :parameters () :precondition (f) :effect (h))
+ (:action clear-f :parameters () :effect (not (f)))
+ (:durative-action up-f :parameters ()
+   :uncontrollable-duration (and (>= ?duration 1) (<= ?duration 5)) :effect (at end (f)))
+ (:durative-action long-f :parameters ()
+   :uncontrollable-duration (and (>= ?duration 3) (<= ?duration 7)) :effect (at end (f)))
+ (:durative-action late-f :parameters ()
+   :uncontrollable-duration (and (>= ?duration 3) (<= ?duration 5)) :effect (at end (f)))
+ (:durative-action on-f :parameters ()
+   :uncontrollable-duration (and (>= ?duration 2) (<= ?duration 6)) :effect (at end (f)))
+ (:durative-action off-f :parameters ()
+   :uncontrollable-duration (and (>= ?duration 4) (<= ?duration 9)) :effect (at end (not (f))))
+ (:durative-action drop-f :parameters ()
+   :uncontrollable-duration (and (>= ?duration 3) (<= ?duration 5)) :effect (at end (not (f))))
+ (:durative-action four :parameters ()
+   :uncontrollable-duration (= ?duration 4) :effect (at end (f)))
+ (:durative-action swap :parameters ()
+   :uncontrollable-duration (and (>= ?duration 2) (<= ?duration 4))
+   :effect (and (at end (f)) (at end (not (g)))))
+ (:durative-action need-f :parameters ()
+   :uncontrollable-duration (and (>= ?duration 2) (<= ?duration 6))
+   :condition (at end (f)) :effect (at end (h)))
+ (:durative-action hold-f :parameters ()
+   :duration (and (>= ?duration 1) (<= ?duration 10)) :condition (over all (f)))
+ (:durative-action hold-fg :parameters ()
+   :duration (and (>= ?duration 1) (<= ?duration 10))
+   :condition (over all (or (f) (g)))))";
+
+const MANY: &[u8] = b"(define (domain many)
+ (:types item)
+ (:predicates (p ?x - item))
+ (:durative-action wipe :parameters (?x - item)
+   :uncontrollable-duration (and (>= ?duration 1) (<= ?duration 9))
+   :effect (at end (not (p ?x))))
+ (:durative-action hold-any :parameters () :duration (= ?duration 9)
+   :condition (over all (exists (?x - item) (p ?x)))))";
+
+const TRIO: &[u8] = b"(define (domain trio)
+ (:predicates (a) (b) (c) (d))
+ (:durative-action make-a :parameters ()
+   :uncontrollable-duration (and (>= ?duration 2) (<= ?duration 3)) :effect (at end (a)))
+ (:action make-b :parameters () :precondition (a) :effect (b))
+ (:action make-c :parameters () :precondition (a) :effect (c)))";
+
+const DUO: &[u8] = b"(define (domain duo)
+ (:predicates (f) (g))
+ (:durative-action on :parameters ()
+   :uncontrollable-duration (and (>= ?duration 2) (<= ?duration 6))
+   :condition (at end (g)) :effect (at end (f)))
+ (:durative-action hold :parameters () :duration (= ?duration 3)
+   :condition (over all (not (f))) :effect (at start (not (g)))))";
+
+const ONCE: &[u8] = b"(define (domain once)
+ (:predicates (a) (b) (c))
+ (:action use-b :parameters () :precondition (a) :effect (and (b) (not (a))))
+ (:action use-c :parameters () :precondition (a) :effect (and (c) (not (a)))))";
+
 /// The refusal of a domain's text, if it has one.
 fn refusal(alloc: Global, bytes: &[u8]) -> Result<Option<(Code, u32)>, Fail> {
     if bytes.len() > 1_048_576 {
@@ -44,7 +105,7 @@ fn refusal(alloc: Global, bytes: &[u8]) -> Result<Option<(Code, u32)>, Fail> {
 
 #[test]
 fn domains_and_their_refusals(rt: HostRuntime) -> Result<(), Fail> {
-    let table: [(&[u8], Option<(Code, u32)>); 25] = [
+    let table: [(&[u8], Option<(Code, u32)>); 48] = [
         (ROVER, None),
         (b"(define)", Some((Code::D01, 0))),
         (b"(define (domain x) (:foo))", Some((Code::D02, 19))),
@@ -121,9 +182,157 @@ fn domains_and_their_refusals(rt: HostRuntime) -> Result<(), Fail> {
             b"(define (domain x) (:durative-action go :duration 5))",
             Some((Code::D24, 50)),
         ),
+        (
+            b"(define (domain x) (:types a a -b))",
+            Some((Code::D08, 29)),
+        ),
+        (
+            b"(define (domain x) (:durative-action))",
+            Some((Code::D05, 19)),
+        ),
+        (
+            b"(define (domain x) (:action go :precondition (p)) (:types a a))",
+            Some((Code::D08, 60)),
+        ),
+        (
+            b"(define (domain x) (:constants c - t) (:types b b))",
+            Some((Code::D08, 48)),
+        ),
+        (
+            b"(define (domain x) (:types a a) (:foo))",
+            Some((Code::D02, 32)),
+        ),
+        (
+            b"(define (domain x) (:action go :precondition (p)) (:constants c - t))",
+            Some((Code::D13, 66)),
+        ),
+        (
+            b"(define (domain x) (:derived (p) (q)))",
+            Some((Code::D03, 19)),
+        ),
+        (b"(define (domain x) (:constraints))", Some((Code::D03, 19))),
+        (b"(define (domain x) (:process a))", Some((Code::D03, 19))),
+        (b"(define (domain x) (:event a))", Some((Code::D03, 19))),
+        (
+            b"(define (domain x) (:predicates (p ?x - (either a b))))",
+            Some((Code::D11, 40)),
+        ),
+        (
+            b"(define (domain x) (:action go :precondition (preference x (p))))",
+            Some((Code::D21, 45)),
+        ),
+        (
+            b"(define (domain x) (:action go :precondition (and (>= (f) 2))))",
+            Some((Code::D21, 50)),
+        ),
+        (
+            b"(define (domain x) (:action go :precondition (not (= (f) 2))))",
+            Some((Code::D21, 50)),
+        ),
+        (
+            b"(define (domain x) (:action go :effect (when (p) (q))))",
+            Some((Code::D23, 39)),
+        ),
+        (
+            b"(define (domain x) (:action go :effect (and (forall (?x) (p ?x)))))",
+            Some((Code::D23, 44)),
+        ),
+        (
+            b"(define (domain x) (:action go :effect (increase (f) 1)))",
+            Some((Code::D23, 39)),
+        ),
+        (
+            b"(define (domain x) (:action go :effect (decrease (f) 1)))",
+            Some((Code::D23, 39)),
+        ),
+        (
+            b"(define (domain x) (:action go :effect (assign (f) 1)))",
+            Some((Code::D23, 39)),
+        ),
+        (
+            b"(define (domain x) (:action go :effect (scale-up (f) 2)))",
+            Some((Code::D23, 39)),
+        ),
+        (
+            b"(define (domain x) (:durative-action go :duration (= ?duration 1) :condition (over all (< (f) 2))))",
+            Some((Code::D21, 87)),
+        ),
+        (
+            b"(define (domain x) (:durative-action go :duration (= ?duration 1) :effect (at end (when (p) (q)))))",
+            Some((Code::D23, 82)),
+        ),
+        (
+            b"(define (domain x) (:durative-action go :duration (= ?duration (f))))",
+            Some((Code::D17, 63)),
+        ),
     ];
     for (bytes, wanted) in table {
         assert_eq!(rt; refusal(rt.alloc(), bytes)?, wanted);
     }
+    Ok(())
+}
+
+/// The same text in capital letters.
+fn in_capitals(alloc: Global, bytes: &[u8]) -> Result<Text, Memory> {
+    let mut out = Text::new(alloc);
+    for byte in bytes {
+        out.push(&[byte.to_ascii_uppercase()])?;
+    }
+    Ok(out)
+}
+
+#[test]
+fn lawful_domains(rt: HostRuntime) -> Result<(), Fail> {
+    let capitals = in_capitals(rt.alloc(), LAB)?;
+    let table: [&[u8]; 8] = [
+        LAB,
+        capitals.as_slice(),
+        MANY,
+        TRIO,
+        DUO,
+        ONCE,
+        b"(define (domain x) (:action go :effect (p) :precondition (q c)) (:predicates (p) (q ?x - t)) (:constants c - t) (:types t))",
+        b"; (\r\n(define (domain x) ; )\r\n (:types t)\r\n (:action go :precondition ()))\r\n",
+    ];
+    for bytes in table {
+        assert_eq!(rt; refusal(rt.alloc(), bytes)?, None);
+    }
+    Ok(())
+}
+
+/// An object of type 1.
+fn object(name: &[u8]) -> ObjectRow<'_> {
+    ObjectRow { name, kind: 1 }
+}
+
+#[test]
+fn a_condition_over_objects_with_one_name(rt: HostRuntime) -> Result<(), Fail> {
+    let arena = Bump::new(rt.alloc());
+    let text = b"(define (domain x) (:types t) (:predicates (p ?a ?b - t)))";
+    let text = arena.try_alloc(tree(rt.alloc(), &arena, text)?)?;
+    let domain = read_domain(rt.alloc(), &arena, text)
+        .ok()
+        .ok_or("no domain")?;
+    let objects = [object(b"a"), object(b"a"), object(b"b")];
+    let condition = arena.try_alloc(tree(rt.alloc(), &arena, b"(p b ?x)")?)?;
+    let names = [b"?x".as_slice()];
+    let condition = read_condition(
+        rt.alloc(),
+        &arena,
+        &domain,
+        &objects,
+        &names,
+        &[1],
+        condition,
+    );
+    let condition = condition.ok().ok_or("no condition")?;
+    let Lifted::Atom(atom) = condition else {
+        return Err("no atom")?;
+    };
+    assert_eq!(rt; atom.symbol, 0);
+    assert_eq!(rt;
+        atom.terms,
+        [Term::Object(ObjectId(2)), Term::Variable(0)].as_slice()
+    );
     Ok(())
 }

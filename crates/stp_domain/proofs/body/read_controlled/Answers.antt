@@ -1,7 +1,5 @@
-use Rattle.std.proofs.Common.{refl, ap, ◌∙◌}
 use Rattle.stp_offence.proofs.Reading.{mapped, paired}
 use Rattle.stp_domain.specs.Bodies.{chosen_timing, durative_body}
-use Rattle.stp_domain.specs.BodyViews.{parts_of}
 use Rattle.stp_domain.proofs.body.read_controlled.Goals as goal
 
 pub returns : goal.returns

@@ -1,0 +1,20 @@
+//! A law of the definitions by which the contracts speak of domains. Nothing here runs.
+
+ghost use Rattle.stp_domain.specs.Typed.{ReadIsTyped};
+
+use stp_condition::laws::read_condition_is_typed;
+use stp_duration::laws::read_durations_are_typed;
+use stp_effect::laws::read_effects_are_typed;
+use stp_timed::laws::read_timed_conditions_are_typed;
+
+/// In a domain that is read the constants and the parameters of predicates and functions have declared types, and
+/// so have each action's parameters, in whose scope its duration, its conditions and its effects are well typed.
+/// This stands on the laws of its parts.
+pub fn read_domain_is_typed()
+    ensures { ReadIsTyped }
+{
+    read_condition_is_typed();
+    read_timed_conditions_are_typed();
+    read_effects_are_typed();
+    read_durations_are_typed();
+}
