@@ -10,11 +10,14 @@ use Rattle.stp_plain.proofs.Callers.{read_from, none_from}
 use Rattle.stp_plain.proofs.Rows.{length_row}
 use Rattle.stp_cli.specs.declared.case.CaseFault.{CaseFault}
 use Rattle.stp_cli.specs.declared.case.CaseFault.TheVariants.{Refused}
-use Rattle.stp_report.specs.declared.answer.Code.TheVariants.{N00}
+use Rattle.stp_offence.specs.declared.code.Code.TheVariants.{N00}
 use Rattle.stp_report.specs.declared.answer.FileName.TheVariants as files
 use Rattle.stp_cli.specs.Planned.{planned}
 use Rattle.stp_cli.specs.Refusals.{refusal}
-use Rattle.stp_cli.specs.Case.{tree_or, box_in, plain_case, case_of}
+use Rattle.stp_cli.specs.Case.{tree_or, read_or, box_in, plain_case, case_of}
+use Rattle.stp_schema.specs.Views.{PlainDomain as WholeDomain, PlainProblem as WholeProblem}
+use Rattle.stp_domain.specs.Reading.{domain_or_refusal}
+use Rattle.stp_problem.specs.Reading.{problem_or_refusal}
 use Rattle.stp_cli.specs.declared.refusal.Refusal.{Refusal}
 
 module _ (domain problem : Tree) (plan : List ℕ) where
@@ -39,13 +42,24 @@ module _ (domain problem plan : List ℕ) where
   unfolding case_of
   refused_domain r d = rw d refl
 
-  pub refused_problem : (t : Tree) (r : Refusal) → tree_or files.Domain (tree_of domain) ≡ Ok t → tree_or files.Problem (tree_of problem) ≡ Err r → case_of domain problem plan ≡ Err r
-  unfolding case_of
-  refused_problem t r d p = rw (d, p) refl
+  module _ (t : Tree) (is_tree : tree_or files.Domain (tree_of domain) ≡ Ok t) where
+    pub refused_world : (r : Refusal) → read_or files.Domain (domain_or_refusal t) ≡ Err r → case_of domain problem plan ≡ Err r
+    unfolding case_of
+    refused_world r w = rw (is_tree, w) refl
 
-  pub by_trees : (t u : Tree) → tree_or files.Domain (tree_of domain) ≡ Ok t → tree_or files.Problem (tree_of problem) ≡ Ok u → case_of domain problem plan ≡ plain_case t u plan
-  unfolding case_of
-  by_trees t u d p = rw (d, p) refl
+    module _ (world : WholeDomain) (is_world : read_or files.Domain (domain_or_refusal t) ≡ Ok world) where
+      pub refused_problem : (r : Refusal) → tree_or files.Problem (tree_of problem) ≡ Err r → case_of domain problem plan ≡ Err r
+      unfolding case_of
+      refused_problem r p = rw (is_tree, is_world, p) refl
+
+      module _ (u : Tree) (is_problem : tree_or files.Problem (tree_of problem) ≡ Ok u) where
+        pub refused_task : (r : Refusal) → read_or files.Problem (problem_or_refusal world u) ≡ Err r → case_of domain problem plan ≡ Err r
+        unfolding case_of
+        refused_task r k = rw (is_tree, is_world, is_problem, k) refl
+
+        pub by_trees : (task : WholeProblem) → read_or files.Problem (problem_or_refusal world u) ≡ Ok task → case_of domain problem plan ≡ plain_case t u plan
+        unfolding case_of
+        by_trees task k = rw (is_tree, is_world, is_problem, k) refl
 
 abbrev failed : {A : Type 0} → CaseFault → Result A CaseFault
 failed fault = Err fault

@@ -2,3 +2,4 @@ mod Planning
 mod Loading
 mod Casing
 mod Verdicts
+mod Writing

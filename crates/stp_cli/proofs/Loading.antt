@@ -8,7 +8,7 @@ use Rattle.stp_io.specs.declared.loading.LoadFault.{LoadFault}
 use Rattle.stp_io.specs.declared.loading.LoadFault.TheVariants as loads
 use Rattle.stp_report.specs.declared.answer.Answer.{Answer}
 use Rattle.stp_report.specs.declared.answer.Answer.TheVariants as answers
-use Rattle.stp_report.specs.declared.answer.Code.TheVariants.{F01}
+use Rattle.stp_offence.specs.declared.code.Code.TheVariants.{F01}
 use Rattle.stp_report.specs.declared.answer.FileName.TheVariants as files
 use Rattle.stp_cli.specs.Words.{Names}
 use Rattle.stp_cli.specs.Outcome.{StoreCall, IsAnswerOn, IsAllowedTo, IsFine, AreFine, IsUnloaded}

@@ -5,9 +5,13 @@ use Rattle.stp_text.specs.Reading.{tree_of}
 use Rattle.stp_text.specs.declared.fault.TextFault.{TextFault}
 use Rattle.stp_text.specs.declared.fault.TextFault.TheVariants as faults
 use Rattle.stp_happen.specs.Boxes.{PlainStep, PlainBox}
+use Rattle.stp_offence.specs.declared.phase.ReadFault.{ReadFault}
+use Rattle.stp_offence.specs.declared.phase.ReadFault.TheVariants as reads
+use Rattle.stp_domain.specs.Reading.{domain_or_refusal}
+use Rattle.stp_problem.specs.Reading.{problem_or_refusal}
 use Rattle.stp_plain.specs.Plain.{plain_domain, plain_problem}
 use Rattle.stp_plain.specs.Meaning.{ProblemMeaning, meaning_of_domain, meaning_of_problem}
-use Rattle.stp_report.specs.declared.answer.Code.TheVariants as codes
+use Rattle.stp_offence.specs.declared.code.Code.TheVariants as codes
 use Rattle.stp_report.specs.declared.answer.FileName.{FileName}
 use Rattle.stp_report.specs.declared.answer.FileName.TheVariants as files
 use Rattle.stp_cli.specs.Planned.{planned}
@@ -28,6 +32,12 @@ abbrev pub tree_or : FileName → Result Tree TextFault → Result Tree Refusal
 tree_or file (Ok tree) = Ok tree
 tree_or file (Err fault) = Err (refusal_of file fault)
 
+-- a reading's fault as a refusal of its file (want of memory is no fault of a tree, and none of its readings)
+abbrev pub read_or : {A : Type 0} → FileName → Result A ReadFault → Result A Refusal
+read_or file (Ok value) = Ok value
+read_or file (Err (reads.Refused code at)) = Err (refusal file code at)
+read_or file (Err reads.Memory) = Err (refusal file codes.N00 0)
+
 -- the steps, from the initial state to the goal
 abbrev pub box_in : ProblemMeaning → List PlainStep → PlainBox
 box_in problem steps = record { steps = steps; initial = problem.initial; goal = problem.goal }
@@ -40,9 +50,11 @@ plain_case domain problem plan = do
   steps ← plain_or files.Plan (planned (meaning_of_domain world) plan)
   Ok (box_in (meaning_of_problem (length world.predicates) task) steps)
 
--- the case of a domain's, a problem's and a plan's bytes, or their first refusal
+-- the case of a domain's, a problem's and a plan's bytes, or their first refusal: each file is read whole before the next one is
 unfoldable pub case_of : List ℕ → List ℕ → List ℕ → Result PlainBox Refusal
 case_of domain problem plan = do
   domain_tree ← tree_or files.Domain (tree_of domain)
+  world ← read_or files.Domain (domain_or_refusal domain_tree)
   problem_tree ← tree_or files.Problem (tree_of problem)
+  task ← read_or files.Problem (problem_or_refusal world problem_tree)
   plain_case domain_tree problem_tree plan

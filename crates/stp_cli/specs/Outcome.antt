@@ -5,7 +5,7 @@ use Rattle.stp_io.specs.declared.loading.LoadFault.{LoadFault}
 use Rattle.stp_io.specs.declared.loading.LoadFault.TheVariants as loads
 use Rattle.stp_report.specs.declared.answer.Answer.{Answer}
 use Rattle.stp_report.specs.declared.answer.Answer.TheVariants as answers
-use Rattle.stp_report.specs.declared.answer.Code.TheVariants.{F01}
+use Rattle.stp_offence.specs.declared.code.Code.TheVariants.{F01}
 use Rattle.stp_report.specs.declared.answer.FileName.{FileName}
 use Rattle.stp_report.specs.declared.answer.FileName.TheVariants as files
 use Rattle.stp_report.specs.Texts.{text_of}
@@ -62,6 +62,7 @@ abbrev pub IsFaultOf : StoreCall → Names → FileName → Type 0
 IsFaultOf reads names files.Domain = IsReadFault reads names.domain
 IsFaultOf reads names files.Problem = IsReadFault reads names.problem × AreFine reads (names.domain ∷ [])
 IsFaultOf reads names files.Plan = IsReadFault reads names.plan × AreFine reads (names.domain ∷ names.problem ∷ [])
+IsFaultOf reads names files.Durations = ⊥
 
 -- where the files are told, the answer is the one on these files
 abbrev pub IsAnswerOn : StoreCall → Names → Answer → Type 0
@@ -69,8 +70,9 @@ IsAnswerOn reads names answer = IfSome reads.told (λ file. IsAnswer (file names
 
 -- when an answer may come to a command
 abbrev pub IsAllowedTo : StoreCall → Names → Answer → Type 0
-IsAllowedTo reads names (answers.Strong steps) = IsAnswerOn reads names (answers.Strong steps)
-IsAllowedTo reads names (answers.Weak fault) = IsAnswerOn reads names (answers.Weak fault)
+IsAllowedTo reads names (answers.Strong steps uncertain grid) = IsAnswerOn reads names (answers.Strong steps uncertain grid)
+IsAllowedTo reads names (answers.Weak grid durations fault) = IsAnswerOn reads names (answers.Weak grid durations fault)
+IsAllowedTo reads names (answers.Replay run fault) = ⊥
 IsAllowedTo reads names (answers.Refused file code at) = IsAnswerOn reads names (answers.Refused file code at)
 IsAllowedTo reads names (answers.ReadFault file) = IsFaultOf reads names file
 IsAllowedTo reads names answers.Usage = ⊥
@@ -89,8 +91,10 @@ IsUnloaded file loads.Memory answer = ⊥
 -- ---- what is left behind
 
 abbrev pub status_of : Answer → Status
-status_of (answers.Strong steps) = statuses.Done
-status_of (answers.Weak fault) = statuses.No
+status_of (answers.Strong steps uncertain grid) = statuses.Done
+status_of (answers.Weak grid durations fault) = statuses.No
+status_of (answers.Replay run None) = statuses.Done
+status_of (answers.Replay run (Some fault)) = statuses.No
 status_of (answers.Refused file code at) = statuses.Refused
 status_of (answers.ReadFault file) = statuses.OutsideFault
 status_of answers.Usage = statuses.Usage

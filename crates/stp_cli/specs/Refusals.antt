@@ -1,7 +1,7 @@
 -- Refusals of files, and what is read where nothing is refused.
 use Rattle.std.specs.Prelude.{ℕ, Option, Some, None, Result, Ok, Err}
-use Rattle.stp_report.specs.declared.answer.Code.{Code}
-use Rattle.stp_report.specs.declared.answer.Code.TheVariants.{N00}
+use Rattle.stp_offence.specs.declared.code.Code.{Code}
+use Rattle.stp_offence.specs.declared.code.Code.TheVariants.{N00}
 use Rattle.stp_report.specs.declared.answer.FileName.{FileName}
 use Rattle.stp_cli.specs.declared.refusal.Refusal.{Refusal}
 

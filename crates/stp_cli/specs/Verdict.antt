@@ -10,8 +10,9 @@ use Rattle.stp_cli.specs.Case.{case_of}
 -- Strong exactly where the run executes on every grid, and otherwise with the first fault of the run on grid 1.
 -- (No step is uncertain, so there are no durations to choose.)
 abbrev pub IsVerdict : PlainBox → Answer → Type 0
-IsVerdict box (answers.Strong steps) = (steps ≡ length box.steps) × IsStrong box
-IsVerdict box (answers.Weak fault) = (IsStrong box → ⊥) × IsFirstFault (run_under box []) fault
+IsVerdict box (answers.Strong steps uncertain grid) = (steps ≡ length box.steps) × (uncertain ≡ 0) × (grid ≡ 1) × IsStrong box
+IsVerdict box (answers.Weak grid durations fault) = (grid ≡ 1) × (durations.now ≡ []) × (IsStrong box → ⊥) × IsFirstFault (run_under box []) fault
+IsVerdict box (answers.Replay run fault) = ⊥
 IsVerdict box (answers.Refused file code at) = ⊥
 IsVerdict box (answers.ReadFault file) = ⊥
 IsVerdict box answers.Usage = ⊥

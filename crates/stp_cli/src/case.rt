@@ -1,6 +1,6 @@
 //! The case that three files make.
 
-ghost use Rattle.std.specs.Prelude.{◌≡◌, ◌≢◌, ◌≤◌, false, length, All, option_map, IfOk, IfSome, Ok, Err};
+ghost use Rattle.std.specs.Prelude.{◌≡◌, ◌≢◌, ◌≤◌, ℕ, false, length, All, option_map, IfOk, IfSome, Ok, Err};
 ghost use Rattle.stp_text.specs.Tree.{view, nodes};
 ghost use Rattle.stp_text.specs.Reading.{tree_of};
 ghost use Rattle.stp_happen.specs.Boxes.{steps_of, plain_box};
@@ -8,7 +8,12 @@ ghost use Rattle.stp_happen.specs.SoundBox.{IsBoxStep};
 ghost use Rattle.stp_plain.specs.Views.{view_of_domain};
 ghost use Rattle.stp_plain.specs.ProblemViews.{view_of_problem};
 ghost use Rattle.stp_cli.specs.Planned.{planned};
-ghost use Rattle.stp_cli.specs.Case.{refusal_of, tree_or, box_in, plain_case, case_of};
+ghost use Rattle.stp_offence.specs.declared.code.Code.{Code as TheCode};
+ghost use Rattle.stp_schema.specs.Views.{domain_of, problem_of};
+ghost use Rattle.stp_domain.specs.Reading.{domain_or_refusal};
+ghost use Rattle.stp_problem.specs.Reading.{HasTypedConstants, problem_or_refusal};
+ghost use Rattle.stp_cli.specs.Refusals.{refusal};
+ghost use Rattle.stp_cli.specs.Case.{refusal_of, tree_or, read_or, box_in, plain_case, case_of};
 ghost use Rattle.stp_cli.specs.declared.case.CaseFault.TheVariants.{Memory as OutOfMemory};
 ghost use Rattle.stp_cli.specs.declared.refusal.Refusal.{Refusal as TheRefusal};
 
@@ -17,9 +22,15 @@ use crate::refusal::Refusal;
 use bumpalo::Bump;
 use std::alloc::Global;
 use stp_base::{List, Memory};
+use stp_domain::read_domain;
 use stp_happen::{BoxRun, BoxStep};
-use stp_plain::{Domain, Problem, read_domain, read_problem};
-use stp_report::{Code, FileName};
+use stp_offence::{Code, ReadFault};
+use stp_plain::{
+    Domain, Problem, read_domain as read_plain_domain, read_problem as read_plain_problem,
+};
+use stp_problem::read_problem;
+use stp_report::FileName;
+use stp_schema::{Domain as WholeDomain, Problem as WholeProblem};
 use stp_steps::read_steps;
 use stp_text::{Sexpr, TextFault, tree};
 use thiserror::Error;
@@ -78,15 +89,63 @@ fn read_tree<'a>(
     arena: &'a Bump,
     file: FileName,
     bytes: &[u8],
-) -> Result<Sexpr<'a>, CaseFault>
+) -> Result<&'a Sexpr<'a>, CaseFault>
     requires { length bytes.now ≤ 1048576 }
-    ensures ok { IfOk result (λ t. tree_or file (tree_of bytes.now) ≡ Ok (view t)) }
-    ensures small { IfOk result (λ t. nodes (view t) ≤ 1048576) }
+    ensures ok { IfOk result (λ t. tree_or file (tree_of bytes.now) ≡ Ok (view t.now)) }
+    ensures small { IfOk result (λ t. nodes (view t.now) ≤ 1048576) }
     ensures refused { (r : TheRefusal) → result ≡ Err (CaseFault.Refused r) → tree_or file (tree_of bytes.now) ≡ Err r }
 {
-    match tree(alloc, arena, bytes) {
+    let tree = match tree(alloc, arena, bytes) {
+        Ok(tree) => tree,
+        Err(fault) => return Err(text_refused(file, fault)),
+    };
+    match arena.try_alloc(tree) {
         Ok(tree) => Ok(tree),
-        Err(fault) => Err(text_refused(file, fault)),
+        Err(_) => Err(CaseFault::Memory),
+    }
+}
+
+/// A reading's fault as a refusal of its file.
+fn read_refused(file: FileName, fault: ReadFault) -> CaseFault
+    ensures memory { fault ≡ ReadFault.Memory → result ≡ CaseFault.Memory }
+    ensures refused { (code : TheCode) (at : ℕ) → fault ≡ ReadFault.Refused code at → result ≡ CaseFault.Refused (refusal file code at) }
+{
+    match fault {
+        ReadFault::Refused { code, at } => refused(file, code, at),
+        ReadFault::Memory => CaseFault::Memory,
+    }
+}
+
+/// The domain of a tree.
+fn whole_domain<'a>(
+    alloc: Global,
+    arena: &'a Bump,
+    tree: &'a Sexpr<'a>,
+) -> Result<WholeDomain<'a>, CaseFault>
+    ensures ok { IfOk result (λ d. read_or FileName.Domain (domain_or_refusal (view tree.now)) ≡ Ok (domain_of d)) }
+    ensures fits { IfOk result (λ d. HasTypedConstants (domain_of d)) }
+    ensures refused { (r : TheRefusal) → result ≡ Err (CaseFault.Refused r) → read_or FileName.Domain (domain_or_refusal (view tree.now)) ≡ Err r }
+{
+    match read_domain(alloc, arena, tree) {
+        Ok(domain) => Ok(domain),
+        Err(fault) => Err(read_refused(FileName::Domain, fault)),
+    }
+}
+
+/// The problem of a tree, for a domain.
+fn whole_problem<'a>(
+    alloc: Global,
+    arena: &'a Bump,
+    domain: WholeDomain<'a>,
+    tree: &'a Sexpr<'a>,
+) -> Result<WholeProblem<'a>, CaseFault>
+    requires { HasTypedConstants (domain_of domain) }
+    ensures ok { IfOk result (λ p. read_or FileName.Problem (problem_or_refusal (domain_of domain.entry) (view tree.now)) ≡ Ok (problem_of p)) }
+    ensures refused { (r : TheRefusal) → result ≡ Err (CaseFault.Refused r) → read_or FileName.Problem (problem_or_refusal (domain_of domain.entry) (view tree.now)) ≡ Err r }
+{
+    match read_problem(alloc, arena, domain, tree) {
+        Ok(problem) => Ok(problem),
+        Err(fault) => Err(read_refused(FileName::Problem, fault)),
     }
 }
 
@@ -115,6 +174,7 @@ fn boxed<'a>(problem: Problem<'a>, steps: List<BoxStep<'a>>) -> BoxRun<'a>
     requires few { length steps ≤ 500 }
     ensures stands { plain_box result ≡ box_in (view_of_problem problem.entry) (steps_of steps.entry) }
     ensures steps { result.steps ≡ steps.entry }
+    ensures grid { result.grid ≡ 1 }
 {
     let Problem { initial, goal } = problem;
     BoxRun {
@@ -136,14 +196,15 @@ fn plain_case<'a>(
     requires domain { nodes (view domain.now) ≤ 1048576 }
     requires plan { length plan.now ≤ 1048576 }
     ensures ok { IfOk result (λ b. plain_case (view domain.now) (view problem.now) plan.now ≡ Ok (plain_box b)) }
+    ensures grid { IfOk result (λ b. b.grid ≡ 1) }
     ensures certain { IfOk result (λ b. All (λ s. s.uncertain ≡ false) b.steps) }
     ensures few { IfOk result (λ b. length b.steps ≤ 500) }
     ensures refused { (r : TheRefusal) → result ≡ Err (CaseFault.Refused r) → plain_case (view domain.now) (view problem.now) plan.now ≡ Err r }
 {
-    let Some(world) = read_domain(alloc, arena, domain)? else {
+    let Some(world) = read_plain_domain(alloc, arena, domain)? else {
         return Err(not_plain(FileName::Domain));
     };
-    let Some(task) = read_problem(alloc, arena, &world, problem)? else {
+    let Some(task) = read_plain_problem(alloc, arena, &world, problem)? else {
         return Err(not_plain(FileName::Problem));
     };
     let Some(steps) = plan_steps(alloc, &world, plan)? else {
@@ -164,17 +225,26 @@ pub fn read_case<'a>(
     requires problem { length problem.now ≤ 1048576 }
     requires plan { length plan.now ≤ 1048576 }
     ensures ok { IfOk result (λ b. case_of domain.now problem.now plan.now ≡ Ok (plain_box b)) }
+    ensures grid { IfOk result (λ b. b.grid ≡ 1) }
     ensures certain { IfOk result (λ b. All (λ s. s.uncertain ≡ false) b.steps) }
     ensures few { IfOk result (λ b. length b.steps ≤ 500) }
     ensures refused { (r : TheRefusal) → result ≡ Err (CaseFault.Refused r) → case_of domain.now problem.now plan.now ≡ Err r }
 {
-    let domain = match read_tree(alloc, arena, FileName::Domain, domain) {
+    let domain_tree = match read_tree(alloc, arena, FileName::Domain, domain) {
         Ok(tree) => tree,
         Err(fault) => return Err(fault),
     };
-    let problem = match read_tree(alloc, arena, FileName::Problem, problem) {
+    let world = match whole_domain(alloc, arena, domain_tree) {
+        Ok(world) => world,
+        Err(fault) => return Err(fault),
+    };
+    let problem_tree = match read_tree(alloc, arena, FileName::Problem, problem) {
         Ok(tree) => tree,
         Err(fault) => return Err(fault),
     };
-    plain_case(alloc, arena, &domain, &problem, plan)
+    let _task = match whole_problem(alloc, arena, world, problem_tree) {
+        Ok(task) => task,
+        Err(fault) => return Err(fault),
+    };
+    plain_case(alloc, arena, domain_tree, problem_tree, plan)
 }

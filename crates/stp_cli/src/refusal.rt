@@ -1,6 +1,7 @@
 //! Refusals of files.
 
-use stp_report::{Code, FileName};
+use stp_offence::Code;
+use stp_report::FileName;
 
 /// A file that is refused: by which code, and where in it.
 #[derive(Clone, Copy, Debug, PartialEq, Eq)]

@@ -42,7 +42,7 @@ fn store(alloc: Global, domain: &[u8], problem: &[u8], plan: &[u8]) -> Result<Me
 fn verdicts(rt: HostRuntime) -> Result<(), Fail> {
     let alloc = rt.alloc();
     let strong: &[u8] = b"strong\nsteps 2 uncertain 0 grid 1\n";
-    let rows: [(&[u8], &[u8], &[u8], &[u8], Status); 27] = [
+    let rows: [(&[u8], &[u8], &[u8], &[u8], Status); 30] = [
         (
             PLAIN,
             TASK,
@@ -159,7 +159,28 @@ fn verdicts(rt: HostRuntime) -> Result<(), Fail> {
             b"(define (domain plain) (:requirements :typing))",
             TASK,
             b"0: (make) [4]",
+            b"refused problem D17 at 51\n",
+            Status::Refused,
+        ),
+        (
+            b"(define (domain plain) (:types a) (:predicates (g)))",
+            TASK,
+            b"",
             b"refused domain N00 at 0\n",
+            Status::Refused,
+        ),
+        (
+            b"(define (domain x) (:action go :precondition (p)))",
+            b"(a",
+            b"",
+            b"refused domain D17 at 45\n",
+            Status::Refused,
+        ),
+        (
+            b"(define (domain lab) (:predicates (f)))",
+            b"(define (problem y) (:domain lab) (:init (at 5 (f))) (:goal (and)))",
+            b"x",
+            b"refused problem P12 at 41\n",
             Status::Refused,
         ),
         (
@@ -194,7 +215,7 @@ fn verdicts(rt: HostRuntime) -> Result<(), Fail> {
             PLAIN,
             b"(define (problem y) (:domain other) (:init) (:goal (g)))",
             b"",
-            b"refused problem N00 at 0\n",
+            b"refused problem P02 at 20\n",
             Status::Refused,
         ),
         (
@@ -299,7 +320,7 @@ fn long_and_deep_files(rt: HostRuntime) -> Result<(), Fail> {
         b"refused domain T03 at 100\n",
     )?;
     let deepest = nested(alloc, 100)?;
-    refuses(&rt, alloc, deepest.as_slice(), b"refused domain N00 at 0\n")
+    refuses(&rt, alloc, deepest.as_slice(), b"refused domain D01 at 0\n")
 }
 
 #[test]

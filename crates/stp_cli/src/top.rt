@@ -1,6 +1,7 @@
 //! The top call.
 
 ghost use Rattle.std.specs.Prelude.{◌≡◌, ◌≤◌, ℕ, true, List, map, string_bytes, IfOk};
+ghost use Rattle.stp_report.specs.Bounds.{AreTimes};
 ghost use Rattle.stp_cli.specs.Named.{names_of};
 ghost use Rattle.stp_cli.specs.Outcome.{IsAllowedTo, IsAllowed, IsOutcome, IsUnloaded, status_of};
 ghost use Rattle.stp_cli.specs.Words.{files_of};
@@ -12,14 +13,17 @@ use std::alloc::Global;
 use stp_base::Memory;
 use stp_base::limits::MAX_FILE_BYTES;
 use stp_io::{LoadFault, Sink, Store, load, write_all};
-use stp_report::{Answer, Code, FileName, print_answer};
+use stp_offence::Code;
+use stp_report::{Answer, FileName, print_answer};
 
-fn status_of(answer: Answer) -> Status
-    ensures { result ≡ status_of answer }
+fn status_of(answer: Answer<'_>) -> Status
+    ensures { result ≡ status_of answer.entry }
 {
     match answer {
         Answer::Strong { .. } => Status::Done,
         Answer::Weak { .. } => Status::No,
+        Answer::Replay { fault: None, .. } => Status::Done,
+        Answer::Replay { fault: Some(_), .. } => Status::No,
         Answer::Refused { .. } => Status::Refused,
         Answer::ReadFault(_) => Status::OutsideFault,
         Answer::Usage => Status::Usage,
@@ -27,8 +31,9 @@ fn status_of(answer: Answer) -> Status
 }
 
 /// The answer where a file was not loaded.
-fn unloaded(file: FileName, fault: LoadFault) -> Result<Answer, Memory>
-    ensures { IfOk result (IsUnloaded file fault) }
+fn unloaded(file: FileName, fault: LoadFault) -> Result<Answer<'static>, Memory>
+    ensures answer { IfOk result (IsUnloaded file fault) }
+    ensures times { IfOk result AreTimes }
 {
     match fault {
         LoadFault::ReadFault => Ok(Answer::ReadFault(file)),
@@ -42,8 +47,13 @@ fn unloaded(file: FileName, fault: LoadFault) -> Result<Answer, Memory>
 }
 
 /// The answer to `check` on the named files.
-fn check<S: Store>(alloc: Global, names: &Files<'_>, store: &mut S) -> Result<Answer, Memory>
+fn check<S: Store>(
+    alloc: Global,
+    names: &Files<'_>,
+    store: &mut S,
+) -> Result<Answer<'static>, Memory>
     ensures answer { IfOk result (λ a. IsAllowedTo (record { told = S.files store.old; steady = S.steady store.old; faults = S.faults store.old; faults_after = S.faults store.new }) (names_of names.now) a) }
+    ensures times { IfOk result AreTimes }
     ensures files { S.files store.new ≡ S.files store.old }
     ensures steady { (n : List ℕ) → S.steady store.old n ≡ true → S.steady store.new n ≡ true }
     ensures counts { S.faults store.old ≤ S.faults store.new }
@@ -69,8 +79,13 @@ fn check<S: Store>(alloc: Global, names: &Files<'_>, store: &mut S) -> Result<An
 }
 
 /// The answer to a list of words.
-fn answer_of<S: Store>(alloc: Global, words: &[String], store: &mut S) -> Result<Answer, Memory>
+fn answer_of<S: Store>(
+    alloc: Global,
+    words: &[String],
+    store: &mut S,
+) -> Result<Answer<'static>, Memory>
     ensures answer { IfOk result (λ a. IsAllowed (record { told = S.files store.old; steady = S.steady store.old; faults = S.faults store.old; faults_after = S.faults store.new }) (files_of (map string_bytes words.now)) a) }
+    ensures times { IfOk result AreTimes }
     ensures files { S.files store.new ≡ S.files store.old }
     ensures steady { (n : List ℕ) → S.steady store.old n ≡ true → S.steady store.new n ≡ true }
     ensures counts { S.faults store.old ≤ S.faults store.new }

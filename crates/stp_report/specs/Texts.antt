@@ -1,12 +1,16 @@
 -- The texts of answers. Each line ends by a line feed.
-use Rattle.std.specs.Prelude.{ℕ, List, [], ◌∷◌, ◌++◌, codes}
+use Rattle.std.specs.Prelude.{ℕ, pos, ◌==◌, if◌then◌else◌, List, [], ◌∷◌, ◌++◌, Option, Some, None, codes}
 use Rattle.std.specs.Fmt.{decimal}
+use Rattle.stp_frac.specs.Fractions.{lowest}
+use Rattle.stp_frac.specs.Reading.{text_of as number_text}
+use Rattle.stp_offence.specs.declared.code.Code.{Code}
+use Rattle.stp_offence.specs.declared.code.Code.TheVariants as code
 use Rattle.stp_happen.specs.declared.fault.Fault.{Fault}
 use Rattle.stp_happen.specs.declared.fault.Fault.TheVariants as faults
+use Rattle.stp_happen.specs.declared.run.Entry.{Entry}
+use Rattle.stp_happen.specs.declared.run.Span.{Span}
 use Rattle.stp_report.specs.declared.answer.Answer.{Answer}
 use Rattle.stp_report.specs.declared.answer.Answer.TheVariants as answers
-use Rattle.stp_report.specs.declared.answer.Code.{Code}
-use Rattle.stp_report.specs.declared.answer.Code.TheVariants as code
 use Rattle.stp_report.specs.declared.answer.FileName.{FileName}
 use Rattle.stp_report.specs.declared.answer.FileName.TheVariants as files
 
@@ -18,6 +22,7 @@ abbrev pub file_text : FileName → List ℕ
 file_text files.Domain = codes "domain"
 file_text files.Problem = codes "problem"
 file_text files.Plan = codes "plan"
+file_text files.Durations = codes "durations"
 
 abbrev pub code_text : Code → List ℕ
 code_text code.F01 = codes "F01"
@@ -27,28 +32,137 @@ code_text code.T03 = codes "T03"
 code_text code.T04 = codes "T04"
 code_text code.T05 = codes "T05"
 code_text code.T06 = codes "T06"
+code_text code.D01 = codes "D01"
+code_text code.D02 = codes "D02"
+code_text code.D03 = codes "D03"
+code_text code.D04 = codes "D04"
+code_text code.D05 = codes "D05"
+code_text code.D06 = codes "D06"
+code_text code.D07 = codes "D07"
+code_text code.D08 = codes "D08"
+code_text code.D09 = codes "D09"
+code_text code.D10 = codes "D10"
+code_text code.D11 = codes "D11"
+code_text code.D12 = codes "D12"
+code_text code.D13 = codes "D13"
+code_text code.D14 = codes "D14"
+code_text code.D15 = codes "D15"
+code_text code.D16 = codes "D16"
+code_text code.D17 = codes "D17"
+code_text code.D18 = codes "D18"
+code_text code.D19 = codes "D19"
+code_text code.D20 = codes "D20"
+code_text code.D21 = codes "D21"
+code_text code.D22 = codes "D22"
+code_text code.D23 = codes "D23"
+code_text code.D24 = codes "D24"
+code_text code.P01 = codes "P01"
+code_text code.P02 = codes "P02"
+code_text code.P03 = codes "P03"
+code_text code.P04 = codes "P04"
+code_text code.P05 = codes "P05"
+code_text code.P06 = codes "P06"
+code_text code.P07 = codes "P07"
+code_text code.P08 = codes "P08"
+code_text code.P09 = codes "P09"
+code_text code.P10 = codes "P10"
+code_text code.P11 = codes "P11"
+code_text code.P12 = codes "P12"
+code_text code.P13 = codes "P13"
+code_text code.P14 = codes "P14"
+code_text code.L01 = codes "L01"
+code_text code.L02 = codes "L02"
+code_text code.X01 = codes "X01"
+code_text code.X02 = codes "X02"
+code_text code.X03 = codes "X03"
+code_text code.X04 = codes "X04"
+code_text code.X05 = codes "X05"
+code_text code.X06 = codes "X06"
+code_text code.X07 = codes "X07"
+code_text code.X08 = codes "X08"
+code_text code.X09 = codes "X09"
+code_text code.X10 = codes "X10"
+code_text code.X11 = codes "X11"
+code_text code.V01 = codes "V01"
+code_text code.V02 = codes "V02"
+code_text code.V03 = codes "V03"
+code_text code.V04 = codes "V04"
+code_text code.G01 = codes "G01"
+code_text code.G02 = codes "G02"
+code_text code.G03 = codes "G03"
+code_text code.G04 = codes "G04"
+code_text code.G05 = codes "G05"
+code_text code.G06 = codes "G06"
+code_text code.R01 = codes "R01"
+code_text code.R02 = codes "R02"
+code_text code.R03 = codes "R03"
 code_text code.N00 = codes "N00"
 
+-- so many parts of a unit of time, of which `grid` are one, in lowest terms
+unfoldable pub time_text : ℕ → ℕ → List ℕ
+time_text grid time = number_text (lowest (pos time) grid)
+
+-- ---- faults
+
 -- a moment and two steps
-abbrev pub at_steps : ℕ → ℕ → ℕ → List ℕ
-at_steps time first second = codes " at " ++ decimal time ++ codes " steps " ++ decimal first ++ codes " " ++ decimal second
+abbrev pub at_steps : ℕ → ℕ → ℕ → ℕ → List ℕ
+at_steps grid time first second = codes " at " ++ time_text grid time ++ codes " steps " ++ decimal first ++ codes " " ++ decimal second
 
 -- a moment and a step
-abbrev pub at_step : ℕ → ℕ → List ℕ
-at_step time step = codes " at " ++ decimal time ++ codes " step " ++ decimal step
+abbrev pub at_step : ℕ → ℕ → ℕ → List ℕ
+at_step grid time step = codes " at " ++ time_text grid time ++ codes " step " ++ decimal step
 
--- a fault, its moment in whole units of time
-abbrev pub fault_text : Fault → List ℕ
-fault_text (faults.Overlap time first second) = codes "overlap" ++ at_steps time first.0 second.0
-fault_text (faults.Interference time first second) = codes "interference" ++ at_steps time first.0 second.0
-fault_text (faults.Condition time step) = codes "condition" ++ at_step time step.0
-fault_text (faults.OverAll time step) = codes "over-all" ++ at_step time step.0
-fault_text faults.Goal = codes "goal"
+-- a fault, its moment on a grid
+abbrev pub fault_text : ℕ → Fault → List ℕ
+fault_text grid (faults.Overlap time first second) = codes "overlap" ++ at_steps grid time first.0 second.0
+fault_text grid (faults.Interference time first second) = codes "interference" ++ at_steps grid time first.0 second.0
+fault_text grid (faults.Condition time step) = codes "condition" ++ at_step grid time step.0
+fault_text grid (faults.OverAll time step) = codes "over-all" ++ at_step grid time step.0
+fault_text grid faults.Goal = codes "goal"
 
--- what is printed
+abbrev pub fault_line : ℕ → Fault → List ℕ
+fault_line grid fault = line (codes "fault " ++ fault_text grid fault)
+
+-- ---- durations
+
+-- further durations, each behind a comma
+abbrev pub further_text : ℕ → List ℕ → List ℕ
+further_text grid [] = []
+further_text grid (d ∷ ds) = 44 ∷ time_text grid d ++ further_text grid ds
+
+-- durations parted by commas
+abbrev pub durations_text : ℕ → List ℕ → List ℕ
+durations_text grid [] = codes "none"
+durations_text grid (d ∷ ds) = time_text grid d ++ further_text grid ds
+
+-- ---- runs
+
+-- what an event is at this time of a step with this span: the one moment of a step without duration, or its start, or its end
+abbrev pub kind_text : ℕ → Span → List ℕ
+kind_text time s = if s.from == s.to then codes "moment" else (if time == s.from then codes "start" else codes "end")
+
+-- what an event of a step is, by the spans of all steps
+abbrev pub kind_in : ℕ → ℕ → List Span → List ℕ
+kind_in time step [] = codes "moment"
+kind_in time step (s ∷ ss) = if s.step.0 == step then kind_text time s else kind_in time step ss
+
+abbrev pub entry_line : ℕ → List Span → Entry → List ℕ
+entry_line grid spans e = line (time_text grid e.time ++ codes " " ++ kind_in e.time e.step.0 spans ++ codes " " ++ decimal e.step.0)
+
+abbrev pub entry_lines : ℕ → List Span → List Entry → List ℕ
+entry_lines grid spans [] = []
+entry_lines grid spans (e ∷ es) = entry_line grid spans e ++ entry_lines grid spans es
+
+abbrev pub ending_line : ℕ → Option Fault → List ℕ
+ending_line grid None = line (codes "executes")
+ending_line grid (Some fault) = fault_line grid fault
+
+-- ---- what is printed
+
 abbrev pub text_of : Answer → List ℕ
-text_of (answers.Strong steps) = line (codes "strong") ++ line (codes "steps " ++ decimal steps ++ codes " uncertain 0 grid 1")
-text_of (answers.Weak fault) = line (codes "not strong") ++ line (codes "durations none") ++ line (codes "fault " ++ fault_text fault)
+text_of (answers.Strong steps uncertain grid) = line (codes "strong") ++ line (codes "steps " ++ decimal steps ++ codes " uncertain " ++ decimal uncertain ++ codes " grid " ++ decimal grid)
+text_of (answers.Weak grid durations fault) = line (codes "not strong") ++ line (codes "durations " ++ durations_text grid durations.now) ++ fault_line grid fault
+text_of (answers.Replay run fault) = entry_lines run.now.grid run.now.spans run.now.entries ++ ending_line run.now.grid fault
 text_of (answers.Refused file code at) = line (codes "refused " ++ file_text file ++ codes " " ++ code_text code ++ codes " at " ++ decimal at)
 text_of (answers.ReadFault file) = line (codes "fault read " ++ file_text file)
 text_of answers.Usage = line (codes "usage: stp check DOMAIN PROBLEM PLAN")

@@ -1,45 +1,43 @@
 //! The answers of the program.
 
-use stp_happen::Fault;
+use stp_happen::{Fault, Run};
+use stp_offence::Code;
 
-/// A file that the command line names.
+/// What a refusal is about: a file that the command line names, or its list of durations.
 #[derive(Clone, Copy, Debug, PartialEq, Eq)]
 pub enum FileName {
     Domain,
     Problem,
     Plan,
+    Durations,
 }
 
-/// The name of a refusal.
-#[derive(Clone, Copy, Debug, PartialEq, Eq)]
-pub enum Code {
-    /// A file that is too long.
-    F01,
-    /// A byte that is no text.
-    T01,
-    /// A `)` too many.
-    T02,
-    /// Lists nested too deeply.
-    T03,
-    /// A list that is not closed.
-    T04,
-    /// A word that is too long.
-    T05,
-    /// Not exactly one list.
-    T06,
-    /// Not a plain file.
-    N00,
-}
-
-/// What the program answers.
-#[derive(Clone, Copy, Debug, PartialEq, Eq)]
-pub enum Answer {
-    /// The plan has so many steps, and is strong.
-    Strong { steps: u32 },
-    /// The plan is not strong: its run has this first fault.
-    Weak { fault: Fault },
+/// What the program answers. Moments and durations are counted on the grid beside them.
+#[derive(Clone, Copy)]
+pub enum Answer<'a> {
+    /// The plan has so many steps, so many of them uncertain, and this base grid, and is strong.
+    Strong {
+        steps: u32,
+        uncertain: u32,
+        grid: u128,
+    },
+    /// The plan is not strong: under these durations its run has this first fault.
+    Weak {
+        grid: u128,
+        durations: &'a [u128],
+        fault: Fault,
+    },
+    /// A run, and its first fault, if it has one.
+    Replay {
+        run: &'a Run<'a>,
+        fault: Option<Fault>,
+    },
     /// A file is refused, at a place of it.
-    Refused { file: FileName, code: Code, at: u32 },
+    Refused {
+        file: FileName,
+        code: Code,
+        at: u32,
+    },
     /// A file could not be read.
     ReadFault(FileName),
     /// The words are no command.

@@ -2,7 +2,16 @@
 #![tactic(auto)]
 
 pub mod answer;
+pub mod code;
+pub mod fault;
+pub mod laws;
+pub mod pieces;
 pub mod print;
+pub mod replay;
 
-pub use answer::{Answer, Code, FileName};
+pub use answer::{Answer, FileName};
 pub use print::print_answer;
+pub use stp_offence::Code;
+
+#[cfg(test)]
+mod tests;

@@ -1,12 +1,19 @@
 //! The texts of answers.
 
-ghost use Rattle.std.specs.Prelude.{◌≡◌, IfOk, string_bytes};
-ghost use Rattle.stp_report.specs.Texts.{text_of, fault_text, file_text, code_text};
+ghost use Rattle.std.specs.Prelude.{◌≡◌, ◌++◌, codes, All, IfOk, OnOk};
+ghost use Rattle.std.specs.Fmt.{decimal};
+ghost use Rattle.stp_report.specs.Texts.{line, text_of, file_text, code_text, further_text, durations_text, fault_line};
+ghost use Rattle.stp_report.specs.Bounds.{IsGrid, IsTime, IsFaultTime, AreTimes};
 
-use crate::answer::{Answer, Code, FileName};
-use std::alloc::{AllocError, Global};
+use crate::answer::{Answer, FileName};
+use crate::code::code_word;
+use crate::fault::push_fault_line;
+use crate::pieces::{push_number, push_time, push_words};
+use crate::replay::push_replay;
+use std::alloc::Global;
 use stp_base::{Memory, Text};
 use stp_happen::Fault;
+use stp_offence::Code;
 
 fn file_word(file: FileName) -> &'static str
     ensures { result.now ≡ file_text file }
@@ -15,96 +22,138 @@ fn file_word(file: FileName) -> &'static str
         FileName::Domain => "domain",
         FileName::Problem => "problem",
         FileName::Plan => "plan",
+        FileName::Durations => "durations",
     }
 }
 
-fn code_word(code: Code) -> &'static str
-    ensures { result.now ≡ code_text code }
+/// Appends further durations, each behind a comma.
+fn push_further(grid: u128, durations: &[u128], out: &mut Text) -> Result<(), Memory>
+    requires grid { IsGrid grid }
+    requires times { All (IsTime grid) durations.now }
+    ensures { OnOk result (out.new ≡ out.old ++ further_text grid durations.now) }
 {
-    match code {
-        Code::F01 => "F01",
-        Code::T01 => "T01",
-        Code::T02 => "T02",
-        Code::T03 => "T03",
-        Code::T04 => "T04",
-        Code::T05 => "T05",
-        Code::T06 => "T06",
-        Code::N00 => "N00",
+    for duration in durations {
+        push_words(",", out)?;
+        push_time(grid, *duration, out)?;
     }
+    Ok(())
 }
 
-fn fault_words(alloc: Global, fault: Fault) -> Result<String, AllocError>
-    ensures { IfOk result (λ s. string_bytes s ≡ fault_text fault) }
+/// Appends durations.
+fn push_durations(grid: u128, durations: &[u128], out: &mut Text) -> Result<(), Memory>
+    requires grid { IsGrid grid }
+    requires times { All (IsTime grid) durations.now }
+    ensures { OnOk result (out.new ≡ out.old ++ durations_text grid durations.now) }
 {
-    match fault {
-        Fault::Overlap {
-            time,
-            first,
-            second,
-        } => {
-            let one = first.0;
-            let other = second.0;
-            let words = format!(in alloc; "overlap at {time} steps {one} {other}")?;
-            Ok(words)
+    match durations {
+        [] => push_words("none", out),
+        [first, further @ ..] => {
+            push_time(grid, *first, out)?;
+            push_further(grid, further, out)?;
+            Ok(())
         }
-        Fault::Interference {
-            time,
-            first,
-            second,
-        } => {
-            let one = first.0;
-            let other = second.0;
-            let words = format!(in alloc; "interference at {time} steps {one} {other}")?;
-            Ok(words)
-        }
-        Fault::Condition { time, step } => {
-            let one = step.0;
-            let words = format!(in alloc; "condition at {time} step {one}")?;
-            Ok(words)
-        }
-        Fault::OverAll { time, step } => {
-            let one = step.0;
-            let words = format!(in alloc; "over-all at {time} step {one}")?;
-            Ok(words)
-        }
-        Fault::Goal => String::from_str(alloc, "goal"),
     }
 }
 
-fn answer_words(alloc: Global, answer: Answer) -> Result<String, AllocError>
-    ensures { IfOk result (λ s. string_bytes s ≡ text_of answer) }
+/// Appends that a plan is strong.
+fn push_strong(
+    alloc: Global,
+    steps: u32,
+    uncertain: u32,
+    grid: u128,
+    out: &mut Text,
+) -> Result<(), Memory>
+    ensures { OnOk result
+        (out.new
+        ≡ out.old
+        ++ line (codes "strong")
+        ++ line (codes "steps " ++ decimal steps ++ codes " uncertain " ++ decimal uncertain ++ codes " grid " ++ decimal grid)) }
+{
+    let words = format!(in alloc; "strong\nsteps {steps} uncertain {uncertain} grid {grid}\n")?;
+    out.push(words.as_bytes())
+}
+
+/// Appends that a plan is not strong.
+fn push_weak(
+    alloc: Global,
+    grid: u128,
+    durations: &[u128],
+    fault: Fault,
+    out: &mut Text,
+) -> Result<(), Memory>
+    requires grid { IsGrid grid }
+    requires durations { All (IsTime grid) durations.now }
+    requires fault { IsFaultTime grid fault }
+    ensures { OnOk result
+        (out.new
+        ≡ out.old
+        ++ line (codes "not strong")
+        ++ line (codes "durations " ++ durations_text grid durations.now)
+        ++ fault_line grid fault) }
+{
+    push_words("not strong\ndurations ", out)?;
+    push_durations(grid, durations, out)?;
+    push_words("\n", out)?;
+    push_fault_line(alloc, grid, fault, out)?;
+    Ok(())
+}
+
+/// Appends a refusal.
+fn push_refused(
+    alloc: Global,
+    file: FileName,
+    code: Code,
+    at: u32,
+    out: &mut Text,
+) -> Result<(), Memory>
+    ensures { OnOk result
+        (out.new
+        ≡ out.old ++ line (codes "refused " ++ file_text file ++ codes " " ++ code_text code ++ codes " at " ++ decimal at)) }
+{
+    let name = file_word(file);
+    let code = code_word(code);
+    let words = format!(in alloc; "refused {name} {code} at {at}\n")?;
+    out.push(words.as_bytes())
+}
+
+/// Appends that a file could not be read.
+fn push_read_fault(alloc: Global, file: FileName, out: &mut Text) -> Result<(), Memory>
+    ensures { OnOk result (out.new ≡ out.old ++ line (codes "fault read " ++ file_text file)) }
+{
+    let name = file_word(file);
+    let words = format!(in alloc; "fault read {name}\n")?;
+    out.push(words.as_bytes())
+}
+
+/// Appends the text of an answer.
+fn push_answer(alloc: Global, answer: &Answer<'_>, out: &mut Text) -> Result<(), Memory>
+    requires { AreTimes answer.now }
+    ensures { OnOk result (out.new ≡ out.old ++ text_of answer.now) }
 {
     match answer {
-        Answer::Strong { steps } => {
-            let words = format!(in alloc; "strong\nsteps {steps} uncertain 0 grid 1\n")?;
-            Ok(words)
-        }
-        Answer::Weak { fault } => {
-            let fault = fault_words(alloc, fault)?;
-            let words = format!(in alloc; "not strong\ndurations none\nfault {fault}\n")?;
-            Ok(words)
-        }
-        Answer::Refused { file, code, at } => {
-            let name = file_word(file);
-            let code = code_word(code);
-            let words = format!(in alloc; "refused {name} {code} at {at}\n")?;
-            Ok(words)
-        }
-        Answer::ReadFault(file) => {
-            let name = file_word(file);
-            let words = format!(in alloc; "fault read {name}\n")?;
-            Ok(words)
-        }
-        Answer::Usage => String::from_str(alloc, "usage: stp check DOMAIN PROBLEM PLAN\n"),
+        Answer::Strong {
+            steps,
+            uncertain,
+            grid,
+        } => push_strong(alloc, *steps, *uncertain, *grid, out),
+        Answer::Weak {
+            grid,
+            durations,
+            fault,
+        } => push_weak(alloc, *grid, durations, *fault, out),
+        Answer::Replay { run, fault } => push_replay(alloc, run, *fault, out),
+        Answer::Refused { file, code, at } => push_refused(alloc, *file, *code, *at, out),
+        Answer::ReadFault(file) => push_read_fault(alloc, *file, out),
+        Answer::Usage => push_words("usage: stp check DOMAIN PROBLEM PLAN\n", out),
     }
 }
 
-/// The text of an answer.
-pub fn print_answer(alloc: Global, answer: &Answer) -> Result<Text, Memory>
+/// The text of an answer, whose times are on their grids.
+pub fn print_answer(alloc: Global, answer: &Answer<'_>) -> Result<Text, Memory>
+    requires { AreTimes answer.now }
     ensures { IfOk result (λ t. t ≡ text_of answer.now) }
 {
-    let words = answer_words(alloc, *answer)?;
     let mut text = Text::new(alloc);
-    text.push(words.as_bytes())?;
+    push_answer(alloc, answer, &mut text)?;
     Ok(text)
 }

@@ -7,7 +7,7 @@ use Rattle.stp_plain.specs.Plain.{plain_domain}
 use Rattle.stp_plain.specs.Views.{view_of_domain}
 use Rattle.stp_plain.specs.ProblemViews.{view_of_problem}
 use Rattle.stp_plain.proofs.Callers.{none_from}
-use Rattle.stp_report.specs.declared.answer.Code.TheVariants.{N00}
+use Rattle.stp_offence.specs.declared.code.Code.TheVariants.{N00}
 use Rattle.stp_report.specs.declared.answer.FileName.TheVariants as files
 use Rattle.stp_cli.specs.Refusals.{refusal}
 use Rattle.stp_cli.proofs.Casing.{no_domain, no_problem_read, no_plan_read, case_read, length_read, same_refusal}

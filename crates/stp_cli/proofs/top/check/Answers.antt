@@ -21,4 +21,4 @@ returns-in-Err-load-2-clause-answer g c =
     (λ was. (risen_from _ _ _ counts (c.in-Err-load-2.ensures.counted (ap Err was)), unsteady_before (steady c.args.store.now) (steady c.load-2.new.store) c.args.names.now.plan.now kept (c.in-Err-load-2.ensures.unsteady (ap Err was))))
     (λ was. rw same_2 at c.in-Err-load-2.ensures.too_long (ap Err was))
     e)
-    c.unloaded-in-Err-load-2.ensures
+    c.unloaded-in-Err-load-2.ensures.answer

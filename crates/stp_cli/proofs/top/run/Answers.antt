@@ -1,0 +1,17 @@
+use Rattle.std.proofs.Common.{inr, refl, ◌∙◌}
+use Rattle.stp_report.specs.Texts.{text_of}
+use Rattle.stp_cli.proofs.Writing.{same_front}
+use Rattle.stp_cli.proofs.top.run.Goals as goal
+
+pub returns-clause-outcome : goal.returns-clause-outcome
+returns-clause-outcome g c =
+    let written = g.K.Sink.written in
+    inr (
+      c.in-Ok.answer,
+      c.in-Ok.ensures.answer,
+      inr (record {
+        ended = refl;
+        counted = c.in-Err.ensures.counted;
+        text = same_front (written c.args.sink.now) (written c.write_all.new.sink) c.as_slice.result.now (text_of c.in-Ok.answer) (c.as_slice.ensures ∙ c.in-Ok-print_answer.ensures) c.in-Err.ensures.front;
+      }),
+    )

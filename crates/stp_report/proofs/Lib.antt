@@ -1,0 +1,3 @@
+pub mod FaultTimes
+mod Times
+mod Runs
