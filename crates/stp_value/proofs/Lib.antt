@@ -1,0 +1,4 @@
+pub mod Weights
+pub mod Tables
+pub mod Steps
+pub mod Zero
