@@ -1,0 +1,10 @@
+pub mod OfType
+pub mod Wheels
+pub mod Claims
+pub mod Instances
+pub mod Gathered
+pub mod FoldedMembers
+pub mod WrittenNumbers
+pub mod Gained
+pub mod Truths
+pub mod Ranges
