@@ -102,6 +102,67 @@ def guarded(steps):
     )
 
 
+def filled(size, make):
+    """As many pieces as fit into so many bytes."""
+    pieces, used, count = [], 0, 0
+    while True:
+        piece = make(count)
+        used += len(piece) + 1
+        if used > size:
+            return "\n".join(pieces)
+        pieces.append(piece)
+        count += 1
+
+
+def types(size):
+    """A chain of types, each below the next, and predicates over them."""
+    chain = filled(size // 2 - 100, lambda i: f"t{i} - t{i + 1}")
+    count = chain.count("\n")
+    predicates = filled(size // 2 - 100, lambda i: f"(p{i} ?x - t{i % count} ?y - t0)")
+    domain = f"(define (domain types) (:types {chain})\n(:predicates {predicates}))\n"
+    return domain, "(define (problem y) (:domain types) (:goal (and)))\n", ""
+
+
+def facts(size):
+    """A problem of objects, facts and values."""
+    domain = "(define (domain facts) (:types a b - c c) (:predicates (p ?x ?y - c)) (:functions (f ?x - c)))\n"
+    objects = filled(size // 4, lambda i: f"o{i} - {'ab'[i % 2]}")
+    count = objects.count("\n")
+    atoms = filled(size // 4, lambda i: f"(p o{i * 7 % count} o{i % count})")
+    values = filled(size // 4, lambda i: f"(= (f o{i % count}) {i % count})")
+    goal = filled(size // 4 - 200, lambda i: f"(p o{i * 5 % count} o{i % count})")
+    problem = f"(define (problem y) (:domain facts) (:objects {objects})\n(:init {atoms}\n{values})\n(:goal (and {goal})))\n"
+    return domain, problem, ""
+
+
+def conditions(size):
+    """Actions with conditions of nested quantifiers, at most 10,000 nodes each."""
+    inner = "(p ?x0)"
+    for depth in range(40):
+        inner = f"(forall (?x{depth} - t) (not {inner}))"
+    action = "(:action a{} :parameters () :precondition (and " + inner.replace("{", "").replace("}", "") + ") :effect ())"
+    actions = filled(size - 200, lambda i: action.format(i))
+    domain = f"(define (domain conditions) (:types t) (:predicates (p ?x - t))\n{actions})\n"
+    return domain, "(define (problem y) (:domain conditions) (:objects o - t) (:goal (and)))\n", ""
+
+
+def variables(size):
+    """One quantifier of as many variables as the file holds."""
+    names = filled(size - 200, lambda i: f"?x{i}")
+    domain = f"(define (domain variables) (:predicates (p ?x))\n(:action a :parameters () :precondition (forall ({names}) (p ?x0)) :effect ()))\n"
+    return domain, "(define (problem y) (:domain variables) (:objects o) (:goal (and)))\n", ""
+
+
+def sums(size):
+    """A duration that is one long sum."""
+    numbers = filled(size - 300, lambda i: "(f)" if i % 2 else "1/7")
+    domain = (
+        "(define (domain sums) (:predicates (p)) (:functions (f))\n"
+        f"(:durative-action a :parameters () :duration (= ?duration (+ {numbers})) :condition () :effect ()))\n"
+    )
+    return domain, "(define (problem y) (:domain sums) (:init (= (f) 1)) (:goal (and)))\n", ""
+
+
 def seconds(files, runs):
     with tempfile.TemporaryDirectory() as folder:
         names = []
@@ -140,6 +201,12 @@ def main():
     table("bytes of a domain", wide, [131_072, 262_144, 524_288, MOST], runs)
     table("bytes of one event", long_event, [131_072, 262_144, 524_288, MOST], runs)
     table("bytes of a plan's comment", comment, [131_072, 262_144, 524_288, MOST], runs)
+    bytes_of_files = [131_072, 262_144, 524_288, MOST]
+    table("bytes of types and predicates", types, bytes_of_files, runs)
+    table("bytes of objects, facts, values and a goal", facts, bytes_of_files, runs)
+    table("bytes of deep conditions", conditions, bytes_of_files, runs)
+    table("bytes of one quantifier's variables", variables, bytes_of_files, runs)
+    table("bytes of a sum", sums, bytes_of_files, runs)
 
 
 main()
