@@ -4,9 +4,9 @@
 pub mod body;
 pub mod condition;
 pub mod domain;
-pub mod firsts;
+mod firsts;
 pub mod laws;
-pub mod placed;
+mod placed;
 pub mod schemas;
 
 pub use condition::read_condition;
