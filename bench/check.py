@@ -69,11 +69,12 @@ def wide(size):
 
 
 def long_event(size):
-    """One action whose condition and effect fill the file."""
+    """One action whose effect fills the file, with as many conditions as an action may have."""
     count = size // 34
     atoms = "".join(f"(p{i})" for i in range(count))
+    needs = "".join(f"(p{i})" for i in range(min(count, 9_999)))
     domain = (
-        f"(define (domain event) (:predicates {atoms})\n(:action go :parameters () :precondition (and {atoms})"
+        f"(define (domain event) (:predicates {atoms})\n(:action go :parameters () :precondition (and {needs})"
         f" :effect (and {atoms})))\n"
     )
     return domain[:MOST], f"(define (problem y) (:domain event) (:init {atoms}) (:goal (p0)))\n", "0: (go)\n"
@@ -128,9 +129,10 @@ def facts(size):
     domain = "(define (domain facts) (:types a b - c c) (:predicates (p ?x ?y - c)) (:functions (f ?x - c)))\n"
     objects = filled(size // 4, lambda i: f"o{i} - {'ab'[i % 2]}")
     count = objects.count("\n")
-    atoms = filled(size // 4, lambda i: f"(p o{i * 7 % count} o{i % count})")
-    values = filled(size // 4, lambda i: f"(= (f o{i % count}) {i % count})")
-    goal = filled(size // 4 - 200, lambda i: f"(p o{i * 5 % count} o{i % count})")
+    goal = filled(min(size // 4, 131_072), lambda i: f"(p o{i * 5 % count} o{i % count})")
+    left = size - len(objects) - len(goal) - 400
+    atoms = filled(left // 2, lambda i: f"(p o{i * 7 % count} o{i % count})")
+    values = filled(left // 2, lambda i: f"(= (f o{i % count}) {i % count})")
     problem = f"(define (problem y) (:domain facts) (:objects {objects})\n(:init {atoms}\n{values})\n(:goal (and {goal})))\n"
     return domain, problem, ""
 
