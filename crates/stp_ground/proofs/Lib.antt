@@ -1,0 +1,9 @@
+pub mod Marking
+pub mod Known
+pub mod Bound
+pub mod Naming
+pub mod Reached
+pub mod Grown
+pub mod Made
+pub mod Firsts
+pub mod Rows

@@ -1,0 +1,25 @@
+//! The ground action that a name and arguments choose.
+#![tactic(auto)]
+
+mod arguments;
+pub mod beginning;
+pub mod choosing;
+pub mod chosen;
+pub mod fault;
+pub mod grounding;
+pub mod instances;
+mod marks;
+pub mod numbering;
+pub mod row;
+mod tables;
+pub mod world;
+
+pub use beginning::{goal_in, number_goal, number_initial};
+pub use choosing::choose;
+pub use chosen::Chosen;
+pub use fault::InstanceFault;
+pub use grounding::ground;
+pub use instances::instance;
+pub use numbering::number_chosen;
+pub use row::initial_row;
+pub use world::World;

@@ -1,0 +1,5 @@
+pub mod Held
+pub mod Timed
+pub mod Lists
+pub mod Fitting
+pub mod Laws

@@ -1,0 +1,78 @@
+-- Windows with a common moment, and steps by their numbers.
+use Rattle.std.proofs.Common.{◌≡◌, ℕ, zero, suc, ◌-◌, ◌≤◌, ◌↔◌, nat_le, Bool, true, ◌&&◌, IsTrue, List, [], ◌∷◌, get_or, max, Contains, Option, Some, None, IfSome, IsSome, refl, ap, sym, ◌∙◌, subst, arith, true≢false}
+use Rattle.std.specs.Prelude.{slice_get, option_map, option_and_then}
+use Rattle.std.proofs.lemmas.Bool.{leb-true, le-leb}
+use Rattle.stp_cond.specs.Atoms.{PlainEvent}
+use Rattle.stp_happen.specs.declared.boxes.BoxStep.{BoxStep}
+use Rattle.stp_happen.specs.declared.boxes.BoxRun.{BoxRun}
+use Rattle.stp_happen.specs.Boxes.{PlainStep, step_of, steps_of, plain_box}
+use Rattle.stp_happen.proofs.Members.{each_of, here, there, and_left, and_right, and_both}
+use Rattle.stp_strength.specs.Windows.{Point}
+use Rattle.stp_strength.specs.Steps.{IsWellMade, first_point, end_point}
+use Rattle.stp_strength.specs.Failures.{may_meet}
+use Rattle.stp_strength.proofs.WellMade.{boxes_are_well_made}
+use Rattle.stp_window.specs.declared.meeting.PointOf.{PointOf}
+use Rattle.stp_window.specs.declared.meeting.PointOf.TheVariants.{First, Last}
+use Rattle.stp_window.specs.Points.{step_numbered, last_point, point_at, HaveMoment, IfBoth}
+
+number_at : (steps : List BoxStep) (n : ℕ) (s : BoxStep) → IsSome (slice_get (steps_of steps) n) → s ≡ get_or steps n s → slice_get (steps_of steps) n ≡ Some (step_of s)
+number_at [] n s h e = absurd (true≢false (sym h))
+number_at (x ∷ xs) zero s h e = ap (λ y. Some (step_of y)) (sym e)
+number_at (x ∷ xs) (suc n) s h e = number_at xs n s h e
+
+pub step_there : (steps : List BoxStep) (number : ℕ) (s : BoxStep) → IsSome (step_numbered (steps_of steps) number) → s ≡ get_or steps (number - 1) s → step_numbered (steps_of steps) number ≡ Some (step_of s)
+step_there steps zero s h e = absurd (true≢false (sym h))
+step_there steps (suc n) s h e = let one_less : suc n - 1 ≡ n = omega arith in number_at steps n s h (subst (λ k. s ≡ get_or steps k s) one_less e)
+
+-- ---- windows go up
+
+numbered_member : (steps : List PlainStep) (number : ℕ) (s : PlainStep) → step_numbered steps number ≡ Some s → Contains steps s
+numbered_member steps zero s e = absurd (cc)
+numbered_member steps (suc n) s e = at_place steps n s e
+  where
+    at_place : (steps : List PlainStep) (n : ℕ) (s : PlainStep) → slice_get steps n ≡ Some s → Contains steps s
+    at_place [] n s e = absurd (cc)
+    at_place (x ∷ xs) zero s e = subst (Contains (x ∷ xs)) (some_same e) (here x xs)
+      where
+        some_same : {X : Type 0} {x y : X} → Some x ≡ Some y → x ≡ y
+        some_same e = cc
+    at_place (x ∷ xs) (suc n) s e = there x xs s (at_place xs n s e)
+
+-- a point of a box has its window's ends in order
+pub point_goes_up : (boxed : BoxRun) (point : PointOf) (p : Point) → point_at (plain_box boxed) point ≡ Some p → p.low ≤ p.high
+point_goes_up boxed (First step) p e = first_up (step_numbered (plain_box boxed).steps step.0) step.0 p e
+  where
+    first_up : (found : Option PlainStep) (number : ℕ) (p : Point) → option_map (first_point number) found ≡ Some p → p.low ≤ p.high
+    first_up None number p e = absurd (cc)
+    first_up (Some s) number p e = let q : first_point number s ≡ p = cc in subst (λ (x : Point). x.low ≤ x.high) q (omega arith)
+point_goes_up boxed (Last step) p e = last_up (step_numbered (plain_box boxed).steps step.0) step.0 p (λ s f. (each_of IsWellMade (plain_box boxed).steps (boxes_are_well_made boxed) s (numbered_member (plain_box boxed).steps step.0 s f)).ordered) e
+  where
+    with_last : (last : Option PlainEvent) (number : ℕ) (s : PlainStep) (p : Point) → s.low ≤ s.high → option_map (λ event. end_point number s) last ≡ Some p → p.low ≤ p.high
+    with_last None number s p l e = absurd (cc)
+    with_last (Some event) number s p l e = let q : end_point number s ≡ p = cc in subst (λ (x : Point). x.low ≤ x.high) q l
+
+    last_up : (found : Option PlainStep) (number : ℕ) (p : Point) → ((s : PlainStep) → found ≡ Some s → s.low ≤ s.high) → option_and_then (last_point number) found ≡ Some p → p.low ≤ p.high
+    last_up None number p up e = absurd (cc)
+    last_up (Some s) number p up e = with_last s.last number s p (up s refl) e
+
+-- ---- meetings
+
+pub moment_told : (p q : Point) → p.low ≤ p.high → q.low ≤ q.high → may_meet p q ≡ true ↔ HaveMoment p q
+moment_told p q l k = (λ h. let b = below p.low p.high q.low q.high l k h in (max p.low q.low, b.0, b.1), λ h. by_moment p.low p.high q.low q.high h.0 h.1 h.2)
+  where
+    below : (a b c d : ℕ) → a ≤ b → c ≤ d → (nat_le a d && nat_le c b) ≡ true → ((a ≤ max a c) × (max a c ≤ b)) × ((c ≤ max a c) × (max a c ≤ d))
+    below a b c d l k h = let e : a ≤ d = leb-true a d (and_left (nat_le a d) (nat_le c b) h) in let f : c ≤ b = leb-true c b (and_right (nat_le a d) (nat_le c b) h) in ((omega arith, omega arith), (omega arith, omega arith))
+
+    by_moment : (a b c d t : ℕ) → (a ≤ t) × (t ≤ b) → (c ≤ t) × (t ≤ d) → (nat_le a d && nat_le c b) ≡ true
+    by_moment a b c d t i j = and_both (nat_le a d) (nat_le c b) (le-leb a d (omega arith)) (le-leb c b (omega arith))
+
+-- the test of two windows that are read off
+pub test_told : (one other : Option Point) (r : Bool) (a b c d : ℕ) → r ≡ (nat_le a d && nat_le c b) → IfSome one (λ p. (a ≡ p.low) × (b ≡ p.high)) → IfSome other (λ q. (c ≡ q.low) × (d ≡ q.high)) → IfBoth one other (λ p q. r ≡ may_meet p q)
+test_told None other r a b c d e f g = tt
+test_told (Some p) None r a b c d e f g = tt
+test_told (Some p) (Some q) r a b c d e f g = rw (← f.0, ← f.1, ← g.0, ← g.1) e
+
+pub both_told : (one other : Option Point) (r : Bool) → ((p : Point) → one ≡ Some p → p.low ≤ p.high) → ((q : Point) → other ≡ Some q → q.low ≤ q.high) → IfBoth one other (λ p q. r ≡ may_meet p q) → IfBoth one other (λ p q. IsTrue r ↔ HaveMoment p q)
+both_told None other r up too e = tt
+both_told (Some p) None r up too e = tt
+both_told (Some p) (Some q) r up too e = let m = moment_told p q (up p refl) (too q refl) in (λ h. m.0 (sym e ∙ h), λ h. e ∙ m.1 h)
