@@ -3,11 +3,13 @@
 
 mod check;
 pub mod laws;
-mod pairs;
+pub mod pairs;
 mod states;
-mod windows;
+pub mod windows;
 
 pub use check::is_sound;
+pub use pairs::{stay_apart, stay_calm};
+pub use windows::{NumberedStep, Window, numbered, windows_of};
 
 #[cfg(test)]
 mod rows;

@@ -9,7 +9,7 @@ use crate::windows::{NumberedStep, Window};
 use stp_cond::interfere;
 
 /// Whether two steps, if they are of one action, never run at one moment.
-fn stay_apart(one: &NumberedStep<'_>, other: &NumberedStep<'_>) -> bool
+pub fn stay_apart(one: &NumberedStep<'_>, other: &NumberedStep<'_>) -> bool
     ensures { result ≡ stay_apart_lem (span_of one.now) (span_of other.now) }
 {
     !(one.number < other.number && one.step.key == other.step.key)
@@ -29,7 +29,7 @@ fn apart_from(one: &NumberedStep<'_>, steps: &[NumberedStep<'_>]) -> bool
 }
 
 /// Whether no two steps of one action ever run at one moment.
-pub(crate) fn all_apart(steps: &[NumberedStep<'_>]) -> bool
+pub fn all_apart(steps: &[NumberedStep<'_>]) -> bool
     ensures { result ≡ all_pairs_pass stay_apart_lem (spans_of steps.now) }
 {
     for one in steps {
@@ -41,14 +41,14 @@ pub(crate) fn all_apart(steps: &[NumberedStep<'_>]) -> bool
 }
 
 /// Whether two windows have a common moment.
-fn may_meet(one: &Window<'_>, other: &Window<'_>) -> bool
+pub fn may_meet(one: &Window<'_>, other: &Window<'_>) -> bool
     ensures { result ≡ may_meet_lem (point_of one.now) (point_of other.now) }
 {
     one.low <= other.high && other.low <= one.high
 }
 
 /// Whether two events of different steps, if their windows have a common moment, do not interfere.
-fn stay_calm(one: &Window<'_>, other: &Window<'_>) -> bool
+pub fn stay_calm(one: &Window<'_>, other: &Window<'_>) -> bool
     ensures { result ≡ stay_calm_lem (point_of one.now) (point_of other.now) }
 {
     !(one.step < other.step && may_meet(one, other)) || !interfere(&one.event, &other.event)
@@ -66,7 +66,7 @@ fn calm_with(one: &Window<'_>, windows: &[Window<'_>]) -> bool
 }
 
 /// Whether no two events of different steps whose windows have a common moment interfere.
-pub(crate) fn all_calm(windows: &[Window<'_>]) -> bool
+pub fn all_calm(windows: &[Window<'_>]) -> bool
     ensures { result ≡ all_pairs_pass stay_calm_lem (points_of windows.now) }
 {
     for one in windows {

@@ -15,18 +15,18 @@ use stp_happen::BoxStep;
 
 /// An event of a step, and the least and the greatest moment at which it may come.
 #[derive(Clone, Copy)]
-pub(crate) struct Window<'a> {
-    pub(crate) low: u128,
-    pub(crate) high: u128,
-    pub(crate) step: u32,
-    pub(crate) event: Event<'a>,
+pub struct Window<'a> {
+    pub low: u128,
+    pub high: u128,
+    pub step: u32,
+    pub event: Event<'a>,
 }
 
 /// A step and its number.
 #[derive(Clone, Copy)]
-pub(crate) struct NumberedStep<'a> {
-    pub(crate) number: u32,
-    pub(crate) step: BoxStep<'a>,
+pub struct NumberedStep<'a> {
+    pub number: u32,
+    pub step: BoxStep<'a>,
 }
 
 /// Puts the windows of a step at the end of a list.
@@ -56,7 +56,7 @@ fn push_windows<'a>(
 }
 
 /// The windows of these steps, in the order of the steps.
-pub(crate) fn windows_of<'a>(
+pub fn windows_of<'a>(
     alloc: Global,
     steps: &[BoxStep<'a>],
 ) -> Result<Vec<Window<'a>>, Memory>
@@ -74,7 +74,7 @@ pub(crate) fn windows_of<'a>(
 }
 
 /// These steps with their numbers, from 1 on.
-pub(crate) fn numbered<'a>(
+pub fn numbered<'a>(
     alloc: Global,
     steps: &[BoxStep<'a>],
 ) -> Result<Vec<NumberedStep<'a>>, Memory>
