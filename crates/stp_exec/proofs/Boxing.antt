@@ -1,5 +1,5 @@
 -- The atoms, the steps and the box of placed steps.
-use Rattle.std.proofs.Common.{◌≡◌, ℕ, ◌+◌, ◌<◌, ◌≤◌, Bool, List, [], ◌∷◌, ◌++◌, length, map, drop, get_or, refl, sym, ap, ◌∙◌, append_assoc}
+use Rattle.std.proofs.Common.{◌≡◌, ℕ, ◌+◌, ◌<◌, ◌≤◌, Bool, List, [], ◌∷◌, ◌++◌, length, map, drop, get_or, Some, None, Result, Ok, Err, refl, sym, ap, ◌∙◌, append_assoc}
 use Rattle.std.proofs.lemmas.List.{append-nil, drop_more, drop_all, map_push}
 use Rattle.stp_schema.specs.Views.{PlainProblem}
 use Rattle.stp_atoms.specs.Atoms.{Atom}
@@ -12,10 +12,14 @@ use Rattle.stp_ground.specs.Problems.{is_fact, goal_of, initial_atoms, goal_atom
 use Rattle.stp_ground.specs.Ground.{atoms_of_chosen, left_of}
 use Rattle.stp_happen.specs.declared.boxes.BoxStep.{BoxStep}
 use Rattle.stp_happen.specs.Boxes.{PlainStep, PlainBox, step_of, steps_of}
+use Rattle.stp_plan.specs.Steps as steps
+use Rattle.stp_exec.specs.declared.fault.ExecFault.{ExecFault}
 use Rattle.stp_exec.specs.declared.placed.Placed.{Placed}
-use Rattle.stp_exec.specs.Placed.{PlainPlaced}
+use Rattle.stp_exec.specs.Faults.{◌>>=◌, unless}
+use Rattle.stp_exec.specs.Placed.{PlainPlaced, placed_from}
 use Rattle.stp_exec.specs.Views.{plain_placed}
-use Rattle.stp_exec.specs.Plans.{meaning, step_in, atoms_of_steps, atoms_of_plan, box_over, box_on}
+use Rattle.stp_exec.specs.Plans.{meaning, step_in, atoms_of_steps, atoms_of_plan, box_over, box_on, grid_of_plan, box_of_plan}
+use Rattle.stp_exec.specs.Boxed.{beyond_limits, box_or_fault}
 use Rattle.stp_exec.proofs.Stepping.{meaning_is}
 
 at_item : {A : Type 0} (xs : List A) (i : ℕ) (x : A) → i < length xs → get_or xs i x ≡ x → drop i xs ≡ x ∷ drop (i + 1) xs
@@ -76,3 +80,27 @@ module _ (p : PlainProblem) (table : List Atom) (grid : ℕ) (placed : List Plai
   box_is steps initial goal numbered stepped first left =
       (λ i. record { steps = stepped i; initial = first i; goal = (meaning_is goal ∙ ap meaning left) i })
       ∙ ap (λ t. box_over p t grid placed) numbered
+
+-- ---- the box of a plan
+
+module _ (p : PlainProblem) (plan : List steps.PlainStep) where
+  abbrev then_box : Result (List PlainPlaced) ExecFault → Result (ℕ × PlainBox) ExecFault
+  then_box r = r >>= (λ (placed : List PlainPlaced). Ok (grid_of_plan placed, box_of_plan p placed))
+
+  abbrev within : Result (List PlainPlaced) ExecFault → Result (List PlainPlaced) ExecFault
+  within r = r >>= (λ (placed : List PlainPlaced). unless (beyond_limits placed) placed)
+
+  -- a step is refused
+  pub step_is_refused : (fault : ExecFault) → placed_from 1 p plan ≡ Err fault → box_or_fault p plan ≡ Err fault
+  step_is_refused fault e = ap (λ r. then_box (within r)) e
+
+  -- a limit is broken
+  pub limit_is_refused : (placed : List PlainPlaced) (fault : ExecFault) → placed_from 1 p plan ≡ Ok placed → beyond_limits placed ≡ Some fault → box_or_fault p plan ≡ Err fault
+  limit_is_refused placed fault e f = ap (λ r. then_box (within r)) e ∙ ap (λ limit. then_box (unless limit placed)) f
+
+  -- nothing is refused
+  pub box_is_found : (placed : List PlainPlaced) (grid : ℕ) (box : PlainBox) → placed_from 1 p plan ≡ Ok placed → beyond_limits placed ≡ None → grid ≡ grid_of_plan placed → box ≡ box_of_plan p placed → box_or_fault p plan ≡ Ok (grid, box)
+  box_is_found placed grid box e f g h =
+      ap (λ r. then_box (within r)) e
+      ∙ ap (λ limit. then_box (unless limit placed)) f
+      ∙ (λ i. Ok (sym g i, sym h i))

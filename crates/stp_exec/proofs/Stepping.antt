@@ -1,6 +1,10 @@
 -- A step on a grid: what its ground action means, and what each step of a box keeps.
-use Rattle.std.proofs.Common.{◌≡◌, ◌≢◌, ℕ, ◌<◌, ◌≤◌, Bool, true, false, Option, Some, None, IfSome, refl, sym, ap, ◌∙◌}
-use Rattle.std.specs.Prelude.{is_some, option_map}
+use Rattle.std.proofs.Common.{◌≡◌, ◌≢◌, ℕ, ◌<◌, ◌≤◌, Bool, true, false, List, [], ◌∷◌, Option, Some, None, IfSome, refl, sym, ap, ◌∙◌, eq-eqb}
+use Rattle.std.specs.Prelude.{◌&&◌, ◌==◌, bytes_eq, is_some, option_map}
+use Rattle.std.specs.Cmp.Lexicographic.{pointwise}
+use Rattle.stp_base.specs.declared.ids.ObjectId.{ObjectId}
+use Rattle.stp_atoms.specs.Asked.{is_same_object}
+use Rattle.stp_binding.specs.Bindings.{numbers_of}
 use Rattle.stp_cond.specs.declared.cond.Cond.{Cond}
 use Rattle.stp_cond.specs.declared.event.Event.{Event}
 use Rattle.stp_cond.specs.Events.{event_of}
@@ -102,3 +106,15 @@ module _ (grid : ℕ) (t : PlainTimed) (moments : Moments) (is : moments ≡ mom
       let h : takes_time t.held ≡ false = sym e ∙ ap is_some none in
       let at_once : (count_of grid t.start ≡ (ends_of grid (count_of grid t.start) t.held).0) × (is_open t.held ≡ false) = ends_at_once grid (count_of grid t.start) t.held h in
       (ap (λ (m : Moments). m.start) is ∙ at_once.0 ∙ sym (ap (λ (m : Moments). m.low) is), at_once.1)
+
+-- ---- actions
+
+same_objects : (xs ys : List ObjectId) → pointwise is_same_object xs ys ≡ bytes_eq (numbers_of xs) (numbers_of ys)
+same_objects [] [] = refl
+same_objects [] (y ∷ ys) = refl
+same_objects (x ∷ xs) [] = refl
+same_objects (x ∷ xs) (y ∷ ys) = ap (λ b. (x.0 == y.0) && b) (same_objects xs ys)
+
+-- two choices of one schema are of one action exactly where their objects are the same
+pub one_action_is : (schema other : ℕ) (xs ys : List ObjectId) → schema ≡ other → pointwise is_same_object xs ys ≡ ((schema == other) && bytes_eq (numbers_of xs) (numbers_of ys))
+one_action_is schema other xs ys e = same_objects xs ys ∙ ap (λ b. b && bytes_eq (numbers_of xs) (numbers_of ys)) (sym (eq-eqb schema other e))

@@ -1,29 +1,87 @@
 //! The boxes of plans.
 
-ghost use Rattle.std.specs.Prelude.{◌≡◌, ◌≢◌, ◌≤◌, length, map, Some, None, IfOk, MatchResult, Ok, Err};
+ghost use Rattle.std.specs.Prelude.{◌≡◌, ◌≢◌, ◌≤◌, true, length, map, Some, None, All, IfOk, MatchResult, Ok, Err};
 ghost use Rattle.stp_schema.specs.Views.{problem_of};
 ghost use Rattle.stp_plan.specs.Laws.{IsAbove, IsLawfulPlan};
 ghost use Rattle.stp_plan.specs.Views.{plain_plan};
 ghost use Rattle.stp_ground.specs.Worlds.{problem_in};
+ghost use Rattle.stp_timing.specs.Timed.{plain_timed, is_lawful_timed, base_grid};
 ghost use Rattle.stp_happen.specs.Boxes.{plain_box};
-ghost use Rattle.stp_exec.specs.Plans.{grid_of_plan, box_of_plan};
-ghost use Rattle.stp_exec.specs.Boxed.{beyond_limits, box_or_fault};
+ghost use Rattle.stp_exec.specs.Times.{IsTimely};
+ghost use Rattle.stp_exec.specs.Plans.{grid_of_plan, box_on, box_of_plan};
+ghost use Rattle.stp_exec.specs.Boxed.{beyond, beyond_limits, box_or_fault};
 ghost use Rattle.stp_exec.specs.Views.{plain_placed};
 
 use crate::fault::ExecFault;
+use crate::numbering::number_plan;
 use crate::placed::Placed;
+use crate::placing::place;
+use crate::steps::box_steps;
+use crate::times::timed;
 use bumpalo::Bump;
 use std::alloc::Global;
-use stp_ground::World;
+use stp_base::Memory;
+use stp_ground::{World, goal_in, initial_row};
 use stp_happen::BoxRun;
 use stp_plan::Plan;
 use stp_schema::Problem;
+use stp_timing::{TimedStep, first_late, grid_of};
+
+/// The base grid of times, or the first limit that they go beyond.
+fn grid_within(times: &[TimedStep]) -> Result<u128, ExecFault>
+    requires few { length times.now ≤ 500 }
+    requires lawful { All (λ step. is_lawful_timed (plain_timed step) ≡ true) times.now }
+    ensures limits { MatchResult result
+        (λ _. beyond (map plain_timed times.now) ≡ None)
+        (λ fault. beyond (map plain_timed times.now) ≡ Some fault) }
+    ensures base { IfOk result (λ grid. grid ≡ base_grid (map plain_timed times.now)) }
+    ensures low { IfOk result (λ grid. 1 ≤ grid) }
+    ensures high { IfOk result (λ grid. grid ≤ 999999999) }
+    ensures timely { IfOk result (λ grid. All (λ step. IsTimely grid (plain_timed step)) times.now) }
+{
+    let Some(grid) = grid_of(times) else {
+        return Err(ExecFault::GridTooFine);
+    };
+    if let Some(step) = first_late(grid, times) {
+        return Err(ExecFault::TimeTooLarge(step));
+    }
+    Ok(grid)
+}
+
+/// The box of placed steps on a grid on which they lie.
+fn boxed<'a>(
+    alloc: Global,
+    arena: &'a Bump,
+    world: &mut World<'a>,
+    grid: u128,
+    placed: &[Placed<'a>],
+) -> Result<BoxRun<'a>, Memory>
+    requires few { length placed.now ≤ 500 }
+    requires low { 1 ≤ grid }
+    requires high { grid ≤ 999999999 }
+    requires timely { All (λ s. IsTimely grid (plain_timed s.timed)) placed.now }
+    ensures grid { IfOk result (λ b. b.grid ≡ grid) }
+    ensures stands { IfOk result (λ b. plain_box b ≡ box_on grid (problem_in world.old) (map plain_placed placed.now)) }
+    ensures same { problem_in world.new ≡ problem_in world.old }
+{
+    let table = number_plan(alloc, arena, world, placed)?;
+    let left = goal_in(alloc, arena, world, &table)?;
+    let goal = arena.try_alloc(left)?;
+    let initial = initial_row(alloc, world, &table)?;
+    let steps = box_steps(alloc, arena, world, &table, grid, placed)?;
+    Ok(BoxRun {
+        grid,
+        steps,
+        initial,
+        goal,
+    })
+}
 
 /// The box of placed steps on their base grid, where that has at most 999,999,999 moments in a unit of time, and no
 /// step starts, or may end, after 999,999,999.
 pub fn box_placed<'a>(
-    _alloc: Global,
-    _arena: &'a Bump,
+    alloc: Global,
+    arena: &'a Bump,
     world: &mut World<'a>,
     placed: &[Placed<'a>],
 ) -> Result<BoxRun<'a>, ExecFault>
@@ -36,16 +94,17 @@ pub fn box_placed<'a>(
     ensures stands { IfOk result (λ b. plain_box b ≡ box_of_plan (problem_in world.old) (map plain_placed placed.now)) }
     ensures same { problem_in world.new ≡ problem_in world.old }
 {
-    let _ = world.fluent.len();
-    let _ = placed.len();
-    Err(ExecFault::Memory)
+    let times = timed(alloc, placed)?;
+    let grid = grid_within(&times)?;
+    let boxed = boxed(alloc, arena, world, grid, placed)?;
+    Ok(boxed)
 }
 
 /// The box of a plan on its base grid, or the first refusal: a step's, that of a base grid of more than 999,999,999
 /// moments in a unit of time, or that of the first step that starts, or may end, after 999,999,999.
 pub fn box_of<'a>(
-    _alloc: Global,
-    _arena: &'a Bump,
+    alloc: Global,
+    arena: &'a Bump,
     problem: &'a Problem<'a>,
     plan: &Plan,
 ) -> Result<BoxRun<'a>, ExecFault>
@@ -54,7 +113,8 @@ pub fn box_of<'a>(
         (λ b. box_or_fault (problem_of problem.now) (plain_plan plan.now) ≡ Ok (b.grid, plain_box b))
         (λ fault. fault ≢ ExecFault.Memory → box_or_fault (problem_of problem.now) (plain_plan plan.now) ≡ Err fault) }
 {
-    let _ = problem.object_names.len();
-    let _ = plan.steps.as_slice();
-    Err(ExecFault::Memory)
+    let mut world = World::new(alloc, problem)?;
+    let placed = place(alloc, arena, &mut world, plan)?;
+    let boxed = box_placed(alloc, arena, &mut world, placed.as_slice())?;
+    Ok(boxed)
 }

@@ -3,9 +3,12 @@
 
 pub mod boxes;
 pub mod fault;
+mod keys;
 pub mod laws;
+mod numbering;
 pub mod placed;
 pub mod placing;
+mod steps;
 pub mod times;
 
 pub use boxes::{box_of, box_placed};

@@ -1,10 +1,12 @@
 //! Putting the steps of a plan in their places.
 
-ghost use Rattle.std.specs.Prelude.{◌≡◌, ◌≢◌, ◌≤◌, length, map, IfOk, MatchResult, Ok, Err};
+ghost use Rattle.std.specs.Prelude.{◌≡◌, ◌≢◌, ◌≤◌, false, length, map, IfOk, MatchResult, Ok, Err};
+ghost use Rattle.stp_frac.specs.Fractions.{value_of, is_below_zero};
 ghost use Rattle.stp_plan.specs.Laws.{IsAbove, IsLawfulPlan};
-ghost use Rattle.stp_plan.specs.Views.{plain_plan};
+ghost use Rattle.stp_plan.specs.Views.{plain_step, plain_plan};
 ghost use Rattle.stp_ground.specs.Worlds.{problem_in};
-ghost use Rattle.stp_exec.specs.Placed.{placed_from};
+ghost use Rattle.stp_exec.specs.Faults.{code_of, at_step};
+ghost use Rattle.stp_exec.specs.Placed.{placed_step, placed_from};
 ghost use Rattle.stp_exec.specs.Plans.{IsPlan};
 ghost use Rattle.stp_exec.specs.Views.{plain_placed};
 
@@ -12,15 +14,63 @@ use crate::fault::ExecFault;
 use crate::placed::Placed;
 use bumpalo::Bump;
 use std::alloc::Global;
-use stp_base::List;
-use stp_ground::World;
-use stp_plan::Plan;
+use stp_base::{List, StepId};
+use stp_ground::{InstanceFault, World, choose};
+use stp_offence::Code;
+use stp_plan::{Plan, Step};
+use stp_timing::{TimedStep, hold};
+
+/// The refusal of a step whose name and arguments choose nothing.
+fn not_chosen(number: StepId, fault: InstanceFault) -> ExecFault
+    ensures memory { fault ≡ InstanceFault.Memory → result ≡ ExecFault.Memory }
+    ensures refused { fault ≢ InstanceFault.Memory → result ≡ ExecFault.Step number (code_of fault) }
+{
+    match fault {
+        InstanceFault::UnknownAction => ExecFault::Step(number, Code::X01),
+        InstanceFault::WrongCount => ExecFault::Step(number, Code::X02),
+        InstanceFault::UnknownObject => ExecFault::Step(number, Code::X03),
+        InstanceFault::WrongType => ExecFault::Step(number, Code::X04),
+        InstanceFault::NoDuration => ExecFault::Step(number, Code::X05),
+        InstanceFault::Memory => ExecFault::Memory,
+    }
+}
+
+/// A step in its place, or why it is refused: first what its name and arguments choose, and then its bracket.
+fn place_step<'a>(
+    alloc: Global,
+    arena: &'a Bump,
+    world: &mut World<'a>,
+    number: StepId,
+    step: &Step,
+) -> Result<Placed<'a>, ExecFault>
+    requires { is_below_zero (value_of step.now.at).top ≡ false }
+    ensures placed { MatchResult result
+        (λ r. at_step number.0 (placed_step (problem_in world.old) (plain_step step.now)) ≡ Ok (plain_placed r))
+        (λ fault. fault ≢ ExecFault.Memory → at_step number.0 (placed_step (problem_in world.old) (plain_step step.now)) ≡ Err fault) }
+    ensures same { problem_in world.new ≡ problem_in world.old }
+{
+    let chosen = match choose(alloc, arena, world, step.name.as_slice(), &step.args) {
+        Ok(chosen) => chosen,
+        Err(fault) => return Err(not_chosen(number, fault)),
+    };
+    let held = match hold(chosen.duration, &step.bracket) {
+        Ok(held) => held,
+        Err(code) => return Err(ExecFault::Step(number, code)),
+    };
+    Ok(Placed {
+        chosen,
+        timed: TimedStep {
+            start: step.at,
+            held,
+        },
+    })
+}
 
 /// The steps of a plan in their places, or the first refusal of one. A step's name and arguments are judged before its
 /// bracket.
 pub fn place<'a>(
-    _alloc: Global,
-    _arena: &'a Bump,
+    alloc: Global,
+    arena: &'a Bump,
     world: &mut World<'a>,
     plan: &Plan,
 ) -> Result<List<Placed<'a>>, ExecFault>
@@ -32,7 +82,10 @@ pub fn place<'a>(
     ensures few { IfOk result (λ r. length r ≤ 500) }
     ensures same { problem_in world.new ≡ problem_in world.old }
 {
-    let _ = world.fluent.len();
-    let _ = plan.steps.as_slice();
-    Err(ExecFault::Memory)
+    let mut placed = List::new(alloc);
+    for (index, step) in plan.steps.as_slice().iter().enumerate() {
+        let number = StepId(index as u32 + 1);
+        placed.push(place_step(alloc, arena, world, number, step)?)?;
+    }
+    Ok(placed)
 }

@@ -11,11 +11,14 @@ use stp_base::Memory;
 use stp_timing::TimedStep;
 
 /// When steps start, and how long they last.
-pub fn timed(_alloc: Global, placed: &[Placed<'_>]) -> Result<Vec<TimedStep>, Memory>
+pub fn timed(alloc: Global, placed: &[Placed<'_>]) -> Result<Vec<TimedStep>, Memory>
     ensures times { IfOk result (λ r. map plain_timed r.items ≡ times_of (map plain_placed placed.now)) }
     ensures count { IfOk result (λ r. length r.items ≡ length placed.now) }
     ensures lawful { IfOk result (λ r. All (λ step. is_lawful_timed (plain_timed step) ≡ true) r.items) }
 {
-    let _ = placed.len();
-    Err(Memory)
+    let mut times = Vec::new(alloc);
+    for step in placed {
+        times.push(step.timed)?;
+    }
+    Ok(times)
 }
