@@ -16,3 +16,6 @@ pub use fault::ExecFault;
 pub use placed::Placed;
 pub use placing::place;
 pub use times::timed;
+
+#[cfg(test)]
+mod tests;
