@@ -1,7 +1,7 @@
 //! The verdict on a box.
 
-ghost use Rattle.std.specs.Prelude.{IfOk};
-ghost use Rattle.stp_happen.specs.Boxes.{plain_box};
+ghost use Rattle.std.specs.Prelude.{◌≡◌, ◌↔◌, IfOk};
+ghost use Rattle.stp_happen.specs.Boxes.{plain_box, IsStrong};
 ghost use Rattle.stp_check.specs.Verdicts.{IsVerdictOn};
 
 use std::alloc::Global;
@@ -17,7 +17,8 @@ pub enum Verdict {
 
 /// Whether a box is strong, and if not, durations at which it fails.
 pub fn strong(_alloc: Global, _boxed: &BoxRun<'_>) -> Result<Verdict, Memory>
-    ensures strong { IfOk result (λ v. IsVerdictOn (plain_box _boxed.now) v) }
+    ensures verdict { IfOk result (λ v. IsVerdictOn (plain_box _boxed.now) v) }
+    ensures exactly { IfOk result (λ v. (v ≡ Verdict.Strong) ↔ IsStrong (plain_box _boxed.now)) }
 {
     Err(Memory)
 }

@@ -6,3 +6,6 @@ mod place;
 mod search;
 
 pub use least::least_failure;
+
+#[cfg(test)]
+mod tests;

@@ -9,7 +9,7 @@ use Rattle.stp_least.proofs.least.least_failure.Goals as goal
 
 pub loop-index-init : goal.loop-index-init
 loop-index-init c =
-    let failure : IsFailure (plain_box c.args.boxed.now) c.in-Weak.failing = rw c.in-Weak.is at c.in_ok-strong.ensures.strong in
+    let failure : IsFailure (plain_box c.args.boxed.now) c.in-Weak.failing = rw c.in-Weak.is at c.in_ok-strong.ensures.verdict in
     rw c.new.ensures (search_begins c.args.boxed.now c.as_slice-steps.result.now c.in-Weak.failing c.as_slice-steps.ensures failure)
 
 pub advanced-requires : goal.advanced-requires
@@ -27,5 +27,5 @@ returns-clause-least c =
 
 pub returns-clause-none : goal.returns-clause-none
 returns-clause-none c =
-    let failure : IsFailure (plain_box c.args.boxed.now) c.in-Weak.failing = rw c.in-Weak.is at c.in_ok-strong.ensures.strong in
+    let failure : IsFailure (plain_box c.args.boxed.now) c.in-Weak.failing = rw c.in-Weak.is at c.in_ok-strong.ensures.verdict in
     (λ e. absurd (true≢false e), λ strong. absurd (failures_mean_weakness (plain_box c.args.boxed.now) c.in-Weak.failing failure strong))

@@ -24,7 +24,7 @@ returns-in-Strong-clause-least c =
     let step = c.args.failing.step in
     let middle = c.args.middle in
     let strong : IsStrong (box_at c.args.place (windowed step step.low middle)) =
-    subst IsStrong c.in_ok-boxed.ensures (rw c.in-Strong.is at c.in_ok-strong.ensures.strong) in
+    subst IsStrong c.in_ok-boxed.ensures (rw c.in-Strong.is at c.in_ok-strong.ensures.verdict) in
     keeps_high c.args.place step middle
     (lower_fits c.args.place c.args.failing middle c.requires.failing c.requires.low c.requires.high) (upper_fits c.args.place c.args.failing middle c.requires.failing c.requires.low c.requires.high) strong
 
