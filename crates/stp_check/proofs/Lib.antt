@@ -1,0 +1,3 @@
+mod Timing
+mod Missing
+mod Judged

@@ -1,0 +1,12 @@
+use Rattle.std.proofs.Common.{refl, sym}
+use Rattle.stp_happen.proofs.Members.{member_map}
+use Rattle.stp_strength.specs.Views.{span_of}
+use Rattle.stp_check.proofs.overlaps.first_overlap.Goals as goal
+
+pub returns-in-Some : goal.returns-in-Some
+returns-in-Some c = (
+  span_of c.one-item.result,
+  member_map span_of c.args.steps.now c.one-item.result (c.loop-one.one-index, c.loop-one-test.true, sym c.one-item.is),
+  refl,
+  c.in-Some.ensures,
+)
