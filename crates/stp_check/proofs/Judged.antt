@@ -64,10 +64,10 @@ broken_box_fails boxed windows spans e f calm steps broken ds is =
 
 -- ---- two steps
 
-pub overlap_in_box_fails : (boxed : BoxRun) (spans : List NumberedStep) → spans_of spans ≡ (windows_in boxed).spans → (one other : ℕ) → AreNotApart (spans_of spans) one other →
-    (ds : List ℕ) → ds ≡ durations_of (plain_box boxed) (late (one ∷ other ∷ [])) → IsFailure (plain_box boxed) ds
-overlap_in_box_fails boxed spans f one other found ds is =
-    subst (IsFailure (plain_box boxed)) (sym is) (overlap_fails (plain_box boxed) (boxes_are_well_made boxed) one other (subst (λ os. AreNotApart os one other) f found))
+pub overlap_in_box_fails : (boxed : BoxRun) (spans : List NumberedStep) → spans_of spans ≡ (windows_in boxed).spans → (step time : ℕ) → AreNotApart (spans_of spans) step time →
+    (ds : List ℕ) → ds ≡ durations_of (plain_box boxed) (near_to (step ∷ []) time) → IsFailure (plain_box boxed) ds
+overlap_in_box_fails boxed spans f step time found ds is =
+    subst (IsFailure (plain_box boxed)) (sym is) (overlap_fails (plain_box boxed) (boxes_are_well_made boxed) step time (subst (λ os. AreNotApart os step time) f found))
 
 pub meeting_in_box_fails : (boxed : BoxRun) (windows : List Window) → points_of windows ≡ (windows_in boxed).points → (one other time : ℕ) → AreNotCalm (points_of windows) one other time →
     (ds : List ℕ) → ds ≡ durations_of (plain_box boxed) (near_to (one ∷ other ∷ []) time) → IsFailure (plain_box boxed) ds

@@ -1,13 +1,13 @@
 -- Boxes fail at chosen durations where a static fact is missing, and are strong where none is.
-use Rattle.std.proofs.Common.{◌≡◌, ℕ, ◌<◌, ◌≤◌, Bool, true, false, not, cond, max, List, [], ◌∷◌, All, Contains, ◌⊎◌, inl, inr, refl, ap, sym, ◌∙◌, subst, arith, true≢false}
+use Rattle.std.proofs.Common.{◌≡◌, ℕ, ◌<◌, ◌≤◌, ◌==◌, nat_lt, nat_le, Bool, true, false, not, ◌&&◌, ◌||◌, cond, max, List, [], ◌∷◌, All, Contains, ◌⊎◌, inl, inr, refl, ap, sym, ◌∙◌, subst, arith, true≢false}
 use mathlib.Core.Path.{fun_ext}
 use Rattle.std.proofs.lemmas.Bool.Decides.{nat_tests}
 use Rattle.stp_cond.specs.Atoms.{has}
 use Rattle.stp_happen.specs.Boxes.{PlainBox, IsStrong}
 use Rattle.stp_happen.specs.LeastFailure.{IsFailure}
 use Rattle.stp_happen.specs.Plain.{Executes, AreCalm, AreApart, IsFed}
-use Rattle.stp_happen.proofs.Members.{all_of, all_pairs, of_mapped, of_mapped_pairs}
-use Rattle.stp_strength.specs.Windows.{Point, OpenSpan, WindowBox, Meet, run_when, entry_at, span_at, IsChoice, IsProper}
+use Rattle.stp_happen.proofs.Members.{each_of, all_of, all_pairs, of_mapped, of_mapped_pairs}
+use Rattle.stp_strength.specs.Windows.{Point, OpenSpan, WindowBox, Meet, run_when, entry_at, span_at, IsInWindow, IsChoice, IsProper}
 use Rattle.stp_strength.specs.Facts.{StayApart, StayCalm, IsFedAlways, at_last, state_at}
 use Rattle.stp_strength.specs.Choices.{corner, nearest}
 use Rattle.stp_strength.specs.Failures.{all_calm, all_pairs_pass, of_steps, stay_apart, stay_calm}
@@ -15,9 +15,9 @@ use Rattle.stp_strength.specs.Steps.{IsWellMade, durations_of, windows_of}
 use Rattle.stp_strength.proofs.Apart.{AreCalm as AreCalmPoints}
 use Rattle.stp_strength.proofs.Certainty.{before_is_certain, end_is_last}
 use Rattle.stp_strength.proofs.Durations.{durations_of_choice}
-use Rattle.stp_strength.proofs.Gaps.{apart_test, apart_told, calm_test, calm_facts, each_pair_passes}
+use Rattle.stp_strength.proofs.Gaps.{apart_told, calm_test, calm_facts, each_pair_passes}
 use Rattle.stp_strength.proofs.Proper.{windows_proper}
-use Rattle.stp_strength.proofs.Sound.{ordered, kept_or_fails}
+use Rattle.stp_strength.proofs.Sound.{ordered, started, kept_or_fails}
 use Rattle.stp_strength.proofs.Strong.{strong_exactly_where_sound}
 use Rattle.stp_inside.specs.Late.{IsBroken, IsKept, is_on_time}
 use Rattle.stp_check.specs.Choices.{late, near_to}
@@ -35,7 +35,10 @@ fails_when box w v choice fails =
     let d = durations_of_choice box w v choice in
     record { vector = d.vector; fails = λ x. fails (subst Executes d.same x) }
 
--- ---- two steps
+-- ---- steps that end near to a moment
+
+only_of_one : (m k : ℕ) → k ≡ m → has (m ∷ []) k ≡ true
+only_of_one m k e = grind (arith, nat_tests)
 
 first_of_two : (m n k : ℕ) → k ≡ m → has (m ∷ n ∷ []) k ≡ true
 first_of_two m n k e = grind (arith, nat_tests)
@@ -43,32 +46,71 @@ first_of_two m n k e = grind (arith, nat_tests)
 second_of_two : (m n k : ℕ) → k ≡ n → has (m ∷ n ∷ []) k ≡ true
 second_of_two m n k e = grind (arith, nat_tests)
 
-late_high : (steps : List ℕ) (p : Point) → of_steps steps p ≡ true → late steps p ≡ p.high
-late_high steps p h = ap (λ b. cond b p.high p.low) h
-
 near_then : (steps : List ℕ) (t : ℕ) (p : Point) → of_steps steps p ≡ true → near_to steps t p ≡ nearest t p
 near_then steps t p h = ap (λ b. cond b (nearest t p) p.low) h
 
 -- ---- spans of one action
 
-apart_or_fails : (b : WindowBox) (v : Point → ℕ) → Executes (run_when b v) → (s o : OpenSpan) → Contains b.spans s → Contains b.spans o → v s.end ≡ s.end.high → v o.end ≡ o.end.high → StayApart s o
-apart_or_fails b v x s o i j e f l k = by_ends (v s.end) (v o.end) s.end.high o.end.high s.from o.from e f (of_mapped_pairs (span_at v) (span_at v) AreApart b.spans b.spans x.apart s o i j l k)
-  where
-    by_ends : (p q ph qh a c : ℕ) → p ≡ ph → q ≡ qh → (p < c) ⊎ (q < a) → (ph < c) ⊎ (qh < a)
-    by_ends p q ph qh a c e f (inl l) = inl (omega arith)
-    by_ends p q ph qh a c e f (inr l) = inr (omega arith)
+-- spans of one action that may run at one moment
+record MayOverlap (s o : OpenSpan) : Type 0 where
+  below : s.end.step < o.end.step
+  same : s.key ≡ o.key
+  ends_after : o.from ≤ s.end.high
+  starts_before : s.from ≤ o.end.high
 
-pub overlap_fails : (box : PlainBox) → All IsWellMade box.steps → (one other : ℕ) → AreNotApart (windows_of box).spans one other → IsFailure box (durations_of box (late (one ∷ other ∷ [])))
-overlap_fails box w one other found =
+may_overlap : (s o : OpenSpan) → stay_apart s o ≡ false → MayOverlap s o
+may_overlap s o h =
+    let r = by_numbers s.end.step o.end.step s.key o.key s.end.high o.from o.end.high s.from h in
+    record { below = r.0; same = r.1; ends_after = r.2; starts_before = r.3 }
+  where
+    by_numbers : (m n k l a b c d : ℕ) → (not (nat_lt m n && k == l) || (nat_lt a b || nat_lt c d)) ≡ false → (m < n) × (k ≡ l) × (b ≤ a) × (d ≤ c)
+    by_numbers m n k l a b c d h = (grind (arith, nat_tests), grind (arith, nat_tests), grind (arith, nat_tests), grind (arith, nat_tests))
+
+-- a span that may last until a moment does if it ends as near to that as it can
+lasts_until : (t : ℕ) (p : Point) → t ≤ p.high → t ≤ nearest t p
+lasts_until t p l = omega arith
+
+by_start : (a b c d : ℕ) → (x : Bool) → nat_le a b ≡ x → ((a ≤ b) × (cond x c d ≡ c)) ⊎ ((b ≤ a) × (cond x c d ≡ d))
+by_start a b c d true e = inl (grind (arith, nat_tests), refl)
+by_start a b c d false e = inr (grind (arith, nat_tests), refl)
+
+-- the run of a choice at which the step that starts first lasts until the other starts
+not_apart : (b : WindowBox) → IsProper b → (v : Point → ℕ) → IsChoice b v → (s o : OpenSpan) → Contains b.spans s → Contains b.spans o → MayOverlap s o →
+    ((s.from ≤ o.from) × (o.from ≤ v s.end)) ⊎ ((o.from ≤ s.from) × (s.from ≤ v o.end)) → Executes (run_when b v) → ⊥
+not_apart b proper v choice s o i j m lasts x =
+    by_order (v s.end) (v o.end) s.end.low o.end.low s.from o.from lasts
+    (started b proper s i).0 (started b proper o j).0 (each_of (λ r. IsInWindow v r.end) b.spans choice.1 s i).0 (each_of (λ r. IsInWindow v r.end) b.spans choice.1 o j).0
+    (of_mapped_pairs (span_at v) (span_at v) AreApart b.spans b.spans x.apart s o i j m.below m.same)
+  where
+    by_order : (se oe sl ol sf ot : ℕ) → ((sf ≤ ot) × (ot ≤ se)) ⊎ ((ot ≤ sf) × (sf ≤ oe)) → sf ≤ sl → ot ≤ ol → sl ≤ se → ol ≤ oe → (se < ot) ⊎ (oe < sf) → ⊥
+    by_order se oe sl ol sf ot (inl (a, b)) c d e f (inl l) = omega arith
+    by_order se oe sl ol sf ot (inl (a, b)) c d e f (inr l) = omega arith
+    by_order se oe sl ol sf ot (inr (a, b)) c d e f (inl l) = omega arith
+    by_order se oe sl ol sf ot (inr (a, b)) c d e f (inr l) = omega arith
+
+pub overlap_fails : (box : PlainBox) → All IsWellMade box.steps → (step time : ℕ) → AreNotApart (windows_of box).spans step time → IsFailure box (durations_of box (near_to (step ∷ []) time))
+overlap_fails box w step time (s, o, i, first, later, (j, e)) =
     let b = windows_of box in
-    let both : List ℕ = one ∷ other ∷ [] in
-    let s = found.0 in
-    let o = found.3.0 in
-    fails_when box w (late both) (late_is_choice b (windows_proper box w) both) (λ x.
-    missing (stay_apart s o)
-    (apart_test s o (apart_or_fails b (late both) x s o found.1 found.3.1
-    (late_high both s.end (first_of_two one other s.end.step found.2)) (late_high both o.end (second_of_two one other o.end.step found.3.2))))
-    found.3.3)
+    let proper = windows_proper box w in
+    let choice = near_to_is_choice b proper (step ∷ []) time in
+    fails_when box w (near_to (step ∷ []) time) choice
+    (not_apart b proper (near_to (step ∷ []) time) choice s o i j (may_overlap s o e)
+    (lasting s o step time (may_overlap s o e) later (by_start s.from o.from s.end.step o.end.step (nat_le s.from o.from) refl) first))
+  where
+    lasting : (s o : OpenSpan) (step time : ℕ) → MayOverlap s o → time ≡ max s.from o.from →
+        ((s.from ≤ o.from) × (cond (nat_le s.from o.from) s.end.step o.end.step ≡ s.end.step)) ⊎ ((o.from ≤ s.from) × (cond (nat_le s.from o.from) s.end.step o.end.step ≡ o.end.step)) →
+        step ≡ cond (nat_le s.from o.from) s.end.step o.end.step →
+        ((s.from ≤ o.from) × (o.from ≤ near_to (step ∷ []) time s.end)) ⊎ ((o.from ≤ s.from) × (s.from ≤ near_to (step ∷ []) time o.end))
+    lasting s o step time m later (inl (a, e)) first =
+        let until : time ≤ s.end.high = let k : o.from ≤ s.end.high = m.ends_after in omega arith in
+        let l : time ≤ nearest time s.end = lasts_until time s.end until in
+        let f : near_to (step ∷ []) time s.end ≡ nearest time s.end = near_then (step ∷ []) time s.end (only_of_one step s.end.step (sym (first ∙ e))) in
+        inl (a, omega (arith, l, f))
+    lasting s o step time m later (inr (a, e)) first =
+        let until : time ≤ o.end.high = let k : s.from ≤ o.end.high = m.starts_before in omega arith in
+        let l : time ≤ nearest time o.end = lasts_until time o.end until in
+        let f : near_to (step ∷ []) time o.end ≡ nearest time o.end = near_then (step ∷ []) time o.end (only_of_one step o.end.step (sym (first ∙ e))) in
+        inr (a, omega (arith, l, f))
 
 -- ---- events that meet
 

@@ -1,15 +1,16 @@
 -- Steps of one action that may run at one moment, and events that may meet and interfere.
-use Rattle.std.specs.Prelude.{◌≡◌, ℕ, false, max, List, Contains}
+use Rattle.std.specs.Prelude.{◌≡◌, ℕ, nat_le, false, if◌then◌else◌, max, List, Contains}
 use Rattle.stp_strength.specs.Windows.{Point, OpenSpan}
 use Rattle.stp_strength.specs.Failures.{stay_apart, stay_calm}
 
--- the span of this step may run at one moment with a span of its action
-abbrev pub IsNotApartFrom : OpenSpan → List OpenSpan → ℕ → Type 0
-IsNotApartFrom s spans other = (o : OpenSpan) × Contains spans o × (o.end.step ≡ other) × (stay_apart s o ≡ false)
+-- a span may run at one moment with another one of its action
+abbrev pub IsNotApartFrom : OpenSpan → List OpenSpan → OpenSpan → Type 0
+IsNotApartFrom s spans o = Contains spans o × (stay_apart s o ≡ false)
 
--- the spans of these steps are of one action and may run at one moment
+-- two spans of one action may run at one moment, this step starts first of the two, and the other starts then
 abbrev pub AreNotApart : List OpenSpan → ℕ → ℕ → Type 0
-AreNotApart spans one other = (s : OpenSpan) × Contains spans s × (s.end.step ≡ one) × IsNotApartFrom s spans other
+AreNotApart spans step time =
+    (s : OpenSpan) × (o : OpenSpan) × Contains spans s × (step ≡ (if nat_le s.from o.from then s.end.step else o.end.step)) × (time ≡ max s.from o.from) × IsNotApartFrom s spans o
 
 -- one of these points may meet another and interferes with it
 abbrev pub IsNotCalmWith : Point → List Point → Point → Type 0

@@ -8,3 +8,6 @@ pub mod verdicts;
 
 pub use choices::{Choice, durations};
 pub use verdicts::{Verdict, strong};
+
+#[cfg(test)]
+mod tests;

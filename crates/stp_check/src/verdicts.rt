@@ -32,7 +32,11 @@ pub enum Verdict {
 }
 
 /// Whether a box executes at these durations.
-fn executes(alloc: Global, boxed: &BoxRun<'_>, durations: &[u128]) -> Result<bool, Memory>
+pub(crate) fn executes(
+    alloc: Global,
+    boxed: &BoxRun<'_>,
+    durations: &[u128],
+) -> Result<bool, Memory>
     requires { IsVector (plain_box boxed.now).steps durations.now }
     ensures { IfOk result (λ r. IsTrue r ↔ Executes (run_under (plain_box boxed.now) durations.now)) }
 {
@@ -66,9 +70,8 @@ fn failing_overlap(
     let Some(found) = first_overlap(spans) else {
         return Ok(None);
     };
-    let both = [found.one, found.other];
-    let latest = durations(alloc, boxed, Choice::Late(&both))?;
-    Ok(Some(latest))
+    let lasting = durations(alloc, boxed, Choice::Near(&[found.step], found.time))?;
+    Ok(Some(lasting))
 }
 
 /// Durations at which two events meet and interfere, if there are any.

@@ -42,7 +42,7 @@ all_pairs_do test xs h = all_pass (λ z. list_all (test z) xs) xs (λ x i. all_p
 
 -- ---- tests of pairs
 
-pub apart_test : (s o : OpenSpan) → StayApart s o → stay_apart s o ≡ true
+apart_test : (s o : OpenSpan) → StayApart s o → stay_apart s o ≡ true
 apart_test s o h = by_numbers s.end.step o.end.step s.key o.key s.end.high o.from o.end.high s.from h
   where
     by_numbers : (m n k l a b c d : ℕ) → (m < n → k ≡ l → (a < b) ⊎ (c < d)) → (not (nat_lt m n && k == l) || (nat_lt a b || nat_lt c d)) ≡ true
