@@ -102,7 +102,7 @@ fn lowered<'a>(place: Place<'_, 'a>, step: BoxStep<'a>, durations: List<u128>) -
     }
 }
 
-/// The same, but for the part of the window up to a middle or for that after it.
+/// The step with the part of its window up to a middle if the box fails with that, and else with the part after it.
 fn halved<'a>(
     alloc: Global,
     place: Place<'_, 'a>,
@@ -131,7 +131,7 @@ fn halved<'a>(
             },
             durations: failing.durations,
         }),
-        Verdict::Weak(failing) => Ok(lowered(place, lower, failing)),
+        Verdict::Weak(found) => Ok(lowered(place, lower, found)),
     }
 }
 
@@ -150,7 +150,8 @@ fn middle_of(low: u128, high: u128, near: bool) -> u128
 
 /// The step fixed to the end that it has at the least failure.
 ///
-/// Which end it has is mostly settled by one less than the end of a failure; halves take the rest.
+/// Mostly the box is strong with all ends before that of a failure, which one test of one less tells. Every other
+/// test halves the window, so that wide windows take few.
 pub fn fixed_at<'a>(
     alloc: Global,
     place: Place<'_, 'a>,
