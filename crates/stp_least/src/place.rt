@@ -135,7 +135,7 @@ fn halved<'a>(
     }
 }
 
-/// The moment before the high, or one halfway from the low.
+/// The moment before the high, or the one halfway from the low to it.
 fn middle_of(low: u128, high: u128, near: bool) -> u128
     requires { low < high }
     ensures low { low ≤ result }
@@ -150,8 +150,7 @@ fn middle_of(low: u128, high: u128, near: bool) -> u128
 
 /// The step fixed to the end that it has at the least failure.
 ///
-/// Mostly the box is strong with all ends before that of a failure, which one test of one less tells. Every other
-/// test halves the window, so that wide windows take few.
+/// Mostly a failure has the end already, and one test of one moment less tells so; halves take the rest.
 pub fn fixed_at<'a>(
     alloc: Global,
     place: Place<'_, 'a>,
@@ -173,7 +172,7 @@ pub fn fixed_at<'a>(
         let high = failing.step.high;
         let middle = middle_of(low, high, near);
         failing = halved(alloc, place, failing, middle)?;
-        near = !near;
+        near = false;
     }
     Ok(failing)
 }
