@@ -211,4 +211,5 @@ def main():
     table("bytes of a sum", sums, bytes_of_files, runs)
 
 
-main()
+if __name__ == "__main__":
+    main()

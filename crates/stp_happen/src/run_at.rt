@@ -134,7 +134,7 @@ fn in_order<'a>(alloc: Global, entries: Vec<Entry<'a>>) -> Result<List<Entry<'a>
 }
 
 /// A row with the values of another.
-pub(crate) fn copy_of(alloc: Global, row: &StateRow) -> Result<StateRow, Memory>
+pub fn copy_of(alloc: Global, row: &StateRow) -> Result<StateRow, Memory>
     ensures { IfOk result (λ r. r ≡ row.now) }
 {
     let mut copy = StateRow::new(alloc, row.len())?;

@@ -48,13 +48,13 @@ apart_test s o h = by_numbers s.end.step o.end.step s.key o.key s.end.high o.fro
     by_numbers : (m n k l a b c d : ℕ) → (m < n → k ≡ l → (a < b) ⊎ (c < d)) → (not (nat_lt m n && k == l) || (nat_lt a b || nat_lt c d)) ≡ true
     by_numbers m n k l a b c d h = grind (arith, nat_tests)
 
-apart_told : (s o : OpenSpan) → stay_apart s o ≡ true → StayApart s o
+pub apart_told : (s o : OpenSpan) → stay_apart s o ≡ true → StayApart s o
 apart_told s o h = by_numbers s.end.step o.end.step s.key o.key s.end.high o.from o.end.high s.from h
   where
     by_numbers : (m n k l a b c d : ℕ) → (not (nat_lt m n && k == l) || (nat_lt a b || nat_lt c d)) ≡ true → m < n → k ≡ l → (a < b) ⊎ (c < d)
     by_numbers m n k l a b c d h below same = grind (arith, nat_tests)
 
-calm_test : (p q : Point) → StayCalm p q → stay_calm p q ≡ true
+pub calm_test : (p q : Point) → StayCalm p q → stay_calm p q ≡ true
 calm_test p q h = by_numbers p.step q.step p.low q.high q.low p.high (interfere p.event q.event) h
   where
     by_numbers : (m n a b c d : ℕ) (x : Bool) → (m < n → (a ≤ b) × (c ≤ d) → x ≡ false) → (not (nat_lt m n && (nat_le a b && nat_le c d)) || not x) ≡ true

@@ -56,12 +56,12 @@ within_wide s wide n ds w u =
     let up : s.start + slice_index ds 0 ≤ s.high = r.2 in
     (r.0, omega arith, omega arith)
 
-vector_wide : (steps wides : List PlainStep) → AreNarrowed steps wides → (ds : List ℕ) → IsVector steps ds → IsVector wides ds
+pub vector_wide : (steps wides : List PlainStep) → AreNarrowed steps wides → (ds : List ℕ) → IsVector steps ds → IsVector wides ds
 vector_wide [] wides n ds v = subst (λ ws. IsVector ws ds) (sym n) v
 vector_wide (s ∷ ss) [] n ds v = absurd n
 vector_wide (s ∷ ss) (w ∷ ws) n ds v = (within_wide s w n.0 ds v.0, subst (IsVector ws) (rest_same s w n.0 ds) (vector_wide ss ws n.1 (rest_of s ds) v.1))
 
-run_same : (box wide : PlainBox) → IsNarrowedBox box wide → (ds : List ℕ) → run_under box ds ≡ run_under wide ds
+pub run_same : (box wide : PlainBox) → IsNarrowedBox box wide → (ds : List ℕ) → run_under box ds ≡ run_under wide ds
 run_same box wide n ds =
     let run : List PlainEntry → List PlainSpan → List Bool → ((ℕ → Bool) → Bool) → PlainRun = λ es os i g. record { entries = es; spans = os; initial = i; goal = g } in
     ap₂ (λ es os. run es os box.initial box.goal) (entries_same 1 box.steps wide.steps n.steps ds) (spans_same 1 box.steps wide.steps n.steps ds)

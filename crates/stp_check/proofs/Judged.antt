@@ -1,0 +1,97 @@
+-- Verdicts on boxes in an arena.
+use Rattle.std.proofs.Common.{◌≡◌, ◌↔◌, ℕ, true, false, List, [], ◌∷◌, Option, Some, None, MatchOption, is_some, true≢false, refl, ap₂, sym, subst}
+use Rattle.stp_cond.specs.Truth.{meaning_of}
+use Rattle.stp_cond.specs.declared.cond.Cond.TheVariants.{True}
+use Rattle.stp_happen.specs.declared.boxes.BoxRun.{BoxRun}
+use Rattle.stp_happen.specs.Boxes.{IsStrong, IsVector, PlainBox, plain_box}
+use Rattle.stp_happen.specs.LeastFailure.{IsFailure}
+use Rattle.stp_strength.specs.declared.windows.Window.{Window}
+use Rattle.stp_strength.specs.declared.windows.NumberedStep.{NumberedStep}
+use Rattle.stp_strength.specs.Windows.{Point, OpenSpan, WindowBox, IsProper}
+use Rattle.stp_strength.specs.Boxed.{windows_in}
+use Rattle.stp_strength.specs.Failures.{all_calm, all_pairs_pass, stay_apart}
+use Rattle.stp_strength.specs.Steps.{durations_of}
+use Rattle.stp_strength.specs.Views.{points_of, spans_of}
+use Rattle.stp_strength.proofs.Durations.{durations_of_choice}
+use Rattle.stp_strength.proofs.Gaps.{failures_mean_weakness}
+use Rattle.stp_strength.proofs.WellMade.{boxes_are_well_made, boxes_have_proper_windows}
+use Rattle.stp_inside.specs.Late.{IsBroken, IsKept, box_inside}
+use Rattle.stp_check.specs.declared.choices.Choice.{Choice}
+use Rattle.stp_check.specs.declared.verdicts.Verdict.{Verdict}
+use Rattle.stp_check.specs.declared.verdicts.Verdict.TheVariants.{Strong, Weak}
+use Rattle.stp_check.specs.Choices.{late, near_to, moment_of}
+use Rattle.stp_check.specs.Pairs.{AreNotApart, AreNotCalm}
+use Rattle.stp_check.specs.Verdicts.{IsVerdictOn, ExecutesEarliest}
+use Rattle.stp_check.proofs.Timing.{moment_is_choice}
+use Rattle.stp_check.proofs.Missing.{overlap_fails, meeting_fails, broken_fails, strong_if_kept}
+
+pub vector_of_choice : (boxed : BoxRun) (choice : Choice) (ds : List ℕ) → ds ≡ durations_of (plain_box boxed) (moment_of choice) → IsVector (plain_box boxed).steps ds
+vector_of_choice boxed choice ds e =
+    subst (IsVector (plain_box boxed).steps) (sym e)
+    (durations_of_choice (plain_box boxed) (boxes_are_well_made boxed) (moment_of choice) (moment_is_choice (windows_in boxed) (boxes_have_proper_windows boxed) choice)).vector
+
+-- ---- what has to hold inside does not depend on the goal
+
+-- the same windows and spans, with a goal that always holds
+abbrev pub without_goal : WindowBox → WindowBox
+without_goal b = record b { goal = meaning_of True }
+
+same_but_goal : (boxed : BoxRun) (windows : List Window) (spans : List NumberedStep) → points_of windows ≡ (windows_in boxed).points → spans_of spans ≡ (windows_in boxed).spans →
+    box_inside windows spans boxed.initial ≡ without_goal (windows_in boxed)
+same_but_goal boxed windows spans e f =
+    let box : List Point → List OpenSpan → WindowBox = λ ps os. record { points = ps; spans = os; initial = boxed.initial; goal = meaning_of True } in
+    ap₂ box e f
+
+proper_without : (b : WindowBox) → IsProper b → IsProper (without_goal b)
+proper_without b p = record { ordered = p.ordered; reading = p.reading; parted = p.parted; started = p.started; owned = p.owned }
+
+pub proper_for_inside : (boxed : BoxRun) (windows : List Window) (spans : List NumberedStep) → points_of windows ≡ (windows_in boxed).points → spans_of spans ≡ (windows_in boxed).spans →
+    IsProper (box_inside windows spans boxed.initial)
+proper_for_inside boxed windows spans e f = subst IsProper (sym (same_but_goal boxed windows spans e f)) (proper_without (windows_in boxed) (boxes_have_proper_windows boxed))
+
+pub kept_in_box : (boxed : BoxRun) (windows : List Window) (spans : List NumberedStep) → points_of windows ≡ (windows_in boxed).points → spans_of spans ≡ (windows_in boxed).spans →
+    IsKept (box_inside windows spans boxed.initial) → IsKept (windows_in boxed)
+kept_in_box boxed windows spans e f kept = subst IsKept (same_but_goal boxed windows spans e f) kept
+
+with_its_goal : (b : WindowBox) (steps : List ℕ) → IsBroken (without_goal b) steps → IsBroken b steps
+with_its_goal b steps (s, t, h) = (s, t, record { there = h.there; from = h.from; to = h.to; own = h.own; fails = h.fails; few = h.few })
+
+pub broken_box_fails : (boxed : BoxRun) (windows : List Window) (spans : List NumberedStep) → points_of windows ≡ (windows_in boxed).points → spans_of spans ≡ (windows_in boxed).spans → all_calm (windows_in boxed) ≡ true →
+    (steps : List ℕ) → IsBroken (box_inside windows spans boxed.initial) steps → (ds : List ℕ) → ds ≡ durations_of (plain_box boxed) (late steps) → IsFailure (plain_box boxed) ds
+broken_box_fails boxed windows spans e f calm steps broken ds is =
+    subst (IsFailure (plain_box boxed)) (sym is)
+    (broken_fails (plain_box boxed) (boxes_are_well_made boxed) calm steps (with_its_goal (windows_in boxed) steps (subst (λ b. IsBroken b steps) (same_but_goal boxed windows spans e f) broken)))
+
+-- ---- two steps
+
+pub overlap_in_box_fails : (boxed : BoxRun) (spans : List NumberedStep) → spans_of spans ≡ (windows_in boxed).spans → (step time : ℕ) → AreNotApart (spans_of spans) step time →
+    (ds : List ℕ) → ds ≡ durations_of (plain_box boxed) (near_to (step ∷ []) time) → IsFailure (plain_box boxed) ds
+overlap_in_box_fails boxed spans f step time found ds is =
+    subst (IsFailure (plain_box boxed)) (sym is) (overlap_fails (plain_box boxed) (boxes_are_well_made boxed) step time (subst (λ os. AreNotApart os step time) f found))
+
+pub meeting_in_box_fails : (boxed : BoxRun) (windows : List Window) → points_of windows ≡ (windows_in boxed).points → (one other time : ℕ) → AreNotCalm (points_of windows) one other time →
+    (ds : List ℕ) → ds ≡ durations_of (plain_box boxed) (near_to (one ∷ other ∷ []) time) → IsFailure (plain_box boxed) ds
+meeting_in_box_fails boxed windows e one other time found ds is =
+    subst (IsFailure (plain_box boxed)) (sym is) (meeting_fails (plain_box boxed) (boxes_are_well_made boxed) one other time (subst (λ ps. AreNotCalm ps one other time) e found))
+
+-- ---- all facts together
+
+pub fact_if_none : (P : Type 0) (Q : List ℕ → Type 0) (r : Option (List ℕ)) → is_some r ≡ false → MatchOption r P Q → P
+fact_if_none P Q None e h = h
+fact_if_none P Q (Some ds) e h = absurd (true≢false e)
+
+weaker_none : (P R : Type 0) (Q : List ℕ → Type 0) → (P → R) → (r : Option (List ℕ)) → MatchOption r P Q → MatchOption r R Q
+weaker_none P R Q f None h = f h
+weaker_none P R Q f (Some ds) h = h
+
+pub strong_or_fails : (boxed : BoxRun) → ExecutesEarliest (plain_box boxed) → all_pairs_pass stay_apart (windows_in boxed).spans ≡ true → all_calm (windows_in boxed) ≡ true →
+    (r : Option (List ℕ)) → MatchOption r (IsKept (windows_in boxed)) (IsFailure (plain_box boxed)) → MatchOption r (IsStrong (plain_box boxed)) (IsFailure (plain_box boxed))
+strong_or_fails boxed runs apart calm r h =
+    weaker_none (IsKept (windows_in boxed)) (IsStrong (plain_box boxed)) (IsFailure (plain_box boxed))
+    (λ kept. strong_if_kept (plain_box boxed) (boxes_are_well_made boxed) runs apart calm kept) r h
+
+-- ---- verdicts
+
+pub verdict_tells : (box : PlainBox) (v : Verdict) → IsVerdictOn box v → (v ≡ Strong) ↔ IsStrong box
+verdict_tells box Strong h = (λ e. h, λ s. refl)
+verdict_tells box (Weak ds) h = (λ e. absurd (cc), λ s. absurd (failures_mean_weakness box ds h s))

@@ -1,0 +1,4 @@
+mod Timing
+mod Missing
+mod Judged
+mod Rules

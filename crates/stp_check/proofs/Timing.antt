@@ -1,0 +1,87 @@
+-- Durations, step by step, and that each choice gives a vector.
+use Rattle.std.proofs.Common.{◌≡◌, ℕ, ◌+◌, ◌-◌, ◌<◌, ◌≤◌, ◌==◌, Bool, true, false, cond, List, [], ◌∷◌, ◌++◌, drop, length, get_or, All, refl, ap, sym, ◌∙◌, subst, arith, append_assoc}
+use Rattle.std.specs.List.{list_any}
+use Rattle.std.proofs.lemmas.List.Elements.{All-get_or}
+use Rattle.stp_base.specs.declared.ids.StepId.{StepId}
+use Rattle.stp_cond.specs.Atoms.{has}
+use Rattle.stp_happen.specs.declared.boxes.BoxStep.{BoxStep}
+use Rattle.stp_happen.specs.declared.boxes.BoxRun.{BoxRun}
+use Rattle.stp_happen.specs.Boxes.{PlainStep, step_of, steps_of}
+use Rattle.stp_happen.proofs.BoxSteps.{step_here}
+use Rattle.stp_happen.proofs.Members.{any_alike, all_of, of_mapped}
+use Rattle.stp_strength.specs.Windows.{Point, WindowBox, IsInWindow, IsChoice, IsProper}
+use Rattle.stp_strength.specs.Choices.{nearest}
+use Rattle.stp_strength.specs.Failures.{of_steps}
+use Rattle.stp_strength.specs.Steps.{IsWellMade, end_point, durations_from}
+use Rattle.stp_strength.proofs.Sound.{ordered, started, near_window}
+use Rattle.stp_strength.proofs.WellMade.{boxes_are_well_made}
+use Rattle.stp_inside.specs.Late.{numbers_of}
+use Rattle.stp_check.specs.declared.choices.Choice.{Choice}
+use Rattle.stp_check.specs.declared.choices.Choice.TheVariants.{Late, Near}
+use Rattle.stp_check.specs.Choices.{late, near_to, moment_of, GoesUp}
+
+-- ---- whether a step is among these
+
+among_is_has : (steps : List StepId) (n : ℕ) → list_any (λ s. s.0 == n) steps ≡ has (numbers_of steps) n
+among_is_has steps n = sym (any_alike (λ (s : StepId). s.0) (λ m. m == n) (λ s. s.0 == n) steps (λ s i. refl))
+
+pub at_late : (steps : List StepId) (p : Point) (b : Bool) → b ≡ list_any (λ s. s.0 == p.step) steps → cond b p.high p.low ≡ late (numbers_of steps) p
+at_late steps p b e = ap (λ x. cond x p.high p.low) (e ∙ among_is_has steps p.step)
+
+pub at_near : (steps : List StepId) (t : ℕ) (p : Point) (b : Bool) → b ≡ list_any (λ s. s.0 == p.step) steps → cond b (nearest t p) p.low ≡ near_to (numbers_of steps) t p
+at_near steps t p b e = ap (λ x. cond x (nearest t p) p.low) (e ∙ among_is_has steps p.step)
+
+-- ---- step by step
+
+-- the first step, and the rest
+first_step : (moment : Point → ℕ) (number : ℕ) (s : PlainStep) (ss : List PlainStep) → durations_from moment number (s ∷ ss) ≡ durations_from moment number (s ∷ []) ++ durations_from moment (number + 1) ss
+first_step moment number s ss = by_test (moment (end_point number s) - s.start) (durations_from moment (number + 1) ss) s.uncertain
+  where
+    by_test : (x : ℕ) (xs : List ℕ) (b : Bool) → cond b (x ∷ xs) xs ≡ cond b (x ∷ []) [] ++ xs
+    by_test x xs true = refl
+    by_test x xs false = refl
+
+pub one_more : (steps : List BoxStep) (i : ℕ) (s : BoxStep) → i < length steps → s ≡ get_or steps i s → (moment : Point → ℕ) (number : ℕ) (ds new whole : List ℕ) →
+    new ≡ ds ++ durations_from moment number (step_of s ∷ []) → ds ++ durations_from moment number (steps_of (drop i steps)) ≡ whole → new ++ durations_from moment (number + 1) (steps_of (drop (i + 1) steps)) ≡ whole
+one_more steps i s l e moment number ds new whole more all =
+    ap (λ ns. ns ++ durations_from moment (number + 1) (steps_of (drop (i + 1) steps))) more
+    ∙ (append_assoc ds (durations_from moment number (step_of s ∷ [])) (durations_from moment (number + 1) (steps_of (drop (i + 1) steps)))
+    ∙ (ap (λ ns. ds ++ ns) (sym (first_step moment number (step_of s) (steps_of (drop (i + 1) steps)))) ∙ (ap (λ ss. ds ++ durations_from moment number ss) (sym (step_here steps i s l e)) ∙ all)))
+
+pub step_goes_up : (steps : List BoxStep) (i : ℕ) (s : BoxStep) → i < length steps → s ≡ get_or steps i s → All GoesUp steps → GoesUp s
+step_goes_up steps i s l e h = subst GoesUp (sym e) (All-get_or GoesUp steps i s l h)
+
+pub box_goes_up : (boxed : BoxRun) → All GoesUp boxed.steps
+box_goes_up boxed = all_of GoesUp boxed.steps (λ s i. let m = of_mapped step_of IsWellMade boxed.steps (boxes_are_well_made boxed) s i in (m.up, m.ordered))
+
+-- ---- each choice is one of the windows
+
+late_window : (steps : List ℕ) (p : Point) → p.low ≤ p.high → IsInWindow (late steps) p
+late_window steps p l = by_test (of_steps steps p) p.low p.high l
+  where
+    by_test : (b : Bool) (m n : ℕ) → m ≤ n → (m ≤ cond b n m) × (cond b n m ≤ n)
+    by_test true m n l = (l, omega arith)
+    by_test false m n l = (omega arith, l)
+
+near_to_window : (steps : List ℕ) (t : ℕ) (p : Point) → p.low ≤ p.high → IsInWindow (near_to steps t) p
+near_to_window steps t p l = by_test (of_steps steps p) p.low p.high (nearest t p) l (near_window t p l)
+  where
+    by_test : (b : Bool) (m n x : ℕ) → m ≤ n → (m ≤ x) × (x ≤ n) → (m ≤ cond b x m) × (cond b x m ≤ n)
+    by_test true m n x l h = h
+    by_test false m n x l h = (omega arith, l)
+
+choice_of_windows : (b : WindowBox) → IsProper b → (moment : Point → ℕ) → ((p : Point) → p.low ≤ p.high → IsInWindow moment p) → IsChoice b moment
+choice_of_windows b proper moment inside = (
+  all_of (IsInWindow moment) b.points (λ p i. inside p (ordered b proper p i)),
+  all_of (λ s. IsInWindow moment s.end) b.spans (λ s i. inside s.end (started b proper s i).1),
+)
+
+pub late_is_choice : (b : WindowBox) → IsProper b → (steps : List ℕ) → IsChoice b (late steps)
+late_is_choice b proper steps = choice_of_windows b proper (late steps) (late_window steps)
+
+pub near_to_is_choice : (b : WindowBox) → IsProper b → (steps : List ℕ) (t : ℕ) → IsChoice b (near_to steps t)
+near_to_is_choice b proper steps t = choice_of_windows b proper (near_to steps t) (near_to_window steps t)
+
+pub moment_is_choice : (b : WindowBox) → IsProper b → (choice : Choice) → IsChoice b (moment_of choice)
+moment_is_choice b proper (Late steps) = late_is_choice b proper (numbers_of steps.now)
+moment_is_choice b proper (Near steps t) = near_to_is_choice b proper (numbers_of steps.now) t

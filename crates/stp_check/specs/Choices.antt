@@ -1,0 +1,26 @@
+-- When the uncertain steps of a box end.
+use Rattle.std.specs.Prelude.{ℕ, ◌≤◌, if◌then◌else◌, List}
+use Rattle.stp_happen.specs.declared.boxes.BoxStep.{BoxStep}
+use Rattle.stp_strength.specs.Windows.{Point}
+use Rattle.stp_strength.specs.Choices.{nearest}
+use Rattle.stp_strength.specs.Failures.{of_steps}
+use Rattle.stp_inside.specs.Late.{numbers_of}
+use Rattle.stp_check.specs.declared.choices.Choice.{Choice}
+use Rattle.stp_check.specs.declared.choices.Choice.TheVariants.{Late, Near}
+
+-- the points of these steps as late as they can come, the others as soon
+abbrev pub late : List ℕ → Point → ℕ
+late steps p = if of_steps steps p then p.high else p.low
+
+-- the points of these steps as near to a moment as they can come, the others as soon
+abbrev pub near_to : List ℕ → ℕ → Point → ℕ
+near_to steps t p = if of_steps steps p then nearest t p else p.low
+
+-- the moment that is chosen for a point
+abbrev pub moment_of : Choice → Point → ℕ
+moment_of (Late steps) = late (numbers_of steps.now)
+moment_of (Near steps t) = near_to (numbers_of steps.now) t
+
+-- a step has its start and the ends of its window in order
+abbrev pub GoesUp : BoxStep → Type 0
+GoesUp s = (s.start ≤ s.low) × (s.low ≤ s.high)

@@ -1,0 +1,5 @@
+pub mod Choosing
+pub mod Carried
+pub mod Coming
+pub mod Judging
+pub mod Moments

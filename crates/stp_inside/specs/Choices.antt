@@ -1,0 +1,37 @@
+-- Choices of ends that come at a moment, and what they make of a state.
+use Rattle.std.specs.Prelude.{◌≡◌, ℕ, Bool, false, not, ◌||◌, List, [], ◌∷◌, map, filter, Contains}
+use Rattle.stp_cond.specs.Atoms.{has, have_common}
+use Rattle.stp_strength.specs.Windows.{Point}
+use Rattle.stp_strength.specs.Failures.{sublists}
+use Rattle.stp_strength.specs.Splitting.{apply}
+
+-- whether an event writes one of these atoms
+abbrev pub touches : List ℕ → Point → Bool
+touches atoms p = have_common p.event.adds atoms || have_common p.event.dels atoms
+
+-- what events make of a state, one after another
+abbrev pub applied : List Point → (ℕ → Bool) → ℕ → Bool
+applied [] state = state
+applied (p ∷ ps) state = applied ps (apply p.event state)
+
+-- the steps of points
+abbrev pub steps_in : List Point → List ℕ
+steps_in ps = map (λ p. p.step) ps
+
+-- these steps are those of the ends that come at a choice under which a test fails
+pub record IsFailingChoice (over : (ℕ → Bool) → Bool) (ends : List Point) (state : ℕ → Bool) (steps : List ℕ) (came : List Point) : Type 0 where
+  pub chosen : Contains (sublists ends) came
+  pub fails : over (applied came state) ≡ false
+  pub told : (n : ℕ) → has steps n ≡ has (steps_in came) n
+
+-- there is a choice of ends that come under which a test fails, and these are their steps
+abbrev pub FailsWith : ((ℕ → Bool) → Bool) → List Point → (ℕ → Bool) → List ℕ → Type 0
+FailsWith over ends state steps = (came : List Point) × IsFailingChoice over ends state steps came
+
+-- a step, and of the steps of these ends all but some
+abbrev pub late_with : ℕ → List Point → List ℕ → List ℕ
+late_with number ends steps = number ∷ filter (λ n. not (has steps n)) (steps_in ends)
+
+-- a step, and those of the ends that do not come at a choice under which a test fails
+abbrev pub IsLateWithout : ((ℕ → Bool) → Bool) → ℕ → List Point → (ℕ → Bool) → List ℕ → Type 0
+IsLateWithout over number ends state late = (steps : List ℕ) × FailsWith over ends state steps × (late ≡ late_with number ends steps)

@@ -1,0 +1,72 @@
+//! Whether what has to hold inside steps does, whichever unsettled ends have come.
+
+ghost use Rattle.std.specs.Prelude.{◌≡◌, Bool, true, List as Sequence, length, map, All, IfOk, MatchOption};
+ghost use Rattle.stp_cond.specs.Events.{IsEventInRange};
+ghost use Rattle.stp_cond.specs.Truth.{is_below};
+ghost use Rattle.stp_inside.specs.Late.{numbers_of, box_inside, IsKept, IsKeptThen, IsBroken, IsRowAt};
+ghost use Rattle.stp_strength.specs.Failures.{all_calm};
+ghost use Rattle.stp_strength.specs.Windows.{IsProper};
+
+use crate::carrying::{by_ends, carry, moments_of};
+use crate::held::{Held, held_steps};
+use crate::late::late_at;
+use crate::rows::copied;
+use crate::touching::unsettled_at;
+use std::alloc::Global;
+use stp_base::{List, Memory, StateRow, StepId};
+use stp_strength::{NumberedStep, Window};
+
+/// Steps whose ends come late, so that what has to hold inside one of these steps does not hold at a
+/// moment, if there are such steps. The row has what is certain then.
+fn late_among(
+    alloc: Global,
+    held: &[Held<'_>],
+    windows: &[Window<'_>],
+    row: &StateRow,
+    time: u128,
+) -> Result<Option<List<StepId>>, Memory>
+    requires events { All (λ w. IsEventInRange (length row.now) w.event) windows.now }
+    requires steps { All (λ h. is_below (length row.now) h.step.step.over.now ≡ true) held.now }
+    ensures { (initial : Sequence Bool) → let b = box_inside windows.now (map (λ h. h.step) held.now) initial in
+        IsRowAt b time row.now → IfOk result (λ r. MatchOption r (IsKeptThen b time) (λ late. IsBroken b (numbers_of late))) }
+{
+    let unsettled = unsettled_at(alloc, windows, time)?;
+    for one in held {
+        if let Some(late) = late_at(alloc, one, &unsettled, row, time)? {
+            return Ok(Some(late));
+        }
+    }
+    Ok(None)
+}
+
+/// Steps whose ends come late, so that what has to hold inside some step does not hold, if there are such
+/// steps; all others then end as soon as they may.
+///
+/// Points that interfere never meet, so that the events may be taken in the order of their windows' ends.
+pub fn first_broken(
+    alloc: Global,
+    windows: &[Window<'_>],
+    spans: &[NumberedStep<'_>],
+    initial: &StateRow,
+) -> Result<Option<List<StepId>>, Memory>
+    requires events { All (λ w. IsEventInRange (length initial.now) w.event) windows.now }
+    requires spans { All (λ s. is_below (length initial.now) s.step.over.now ≡ true) spans.now }
+    requires calm { all_calm (box_inside windows.now spans.now initial.now) ≡ true }
+    requires proper { IsProper (box_inside windows.now spans.now initial.now) }
+    ensures { IfOk result (λ r. MatchOption r
+        (IsKept (box_inside windows.now spans.now initial.now))
+        (λ late. IsBroken (box_inside windows.now spans.now initial.now) (numbers_of late))) }
+{
+    let held = held_steps(alloc, spans)?;
+    let ordered = by_ends(alloc, windows)?;
+    let moments = moments_of(alloc, windows)?;
+    let mut row = copied(alloc, initial)?;
+    let mut place = 0;
+    for time in &moments {
+        place = carry(&mut row, &ordered, place, *time);
+        if let Some(late) = late_among(alloc, &held, windows, &row, *time)? {
+            return Ok(Some(late));
+        }
+    }
+    Ok(None)
+}

@@ -1,0 +1,12 @@
+//! What has to hold inside steps, whichever unsettled ends have come.
+#![tactic(auto)]
+
+mod carrying;
+mod choices;
+pub mod finding;
+mod held;
+mod late;
+mod rows;
+mod touching;
+
+pub use finding::first_broken;

@@ -1,0 +1,4 @@
+pub mod Middles
+pub mod Narrowing
+pub mod Placed
+pub mod Searches

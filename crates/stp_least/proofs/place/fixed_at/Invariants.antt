@@ -1,0 +1,13 @@
+use Rattle.std.proofs.Common.{◌-◌}
+use Rattle.stp_least.specs.Searching.{KeepsLeastFailure}
+use Rattle.stp_least.specs.Places.{box_at, IsFailing}
+use Rattle.stp_least.proofs.place.fixed_at.Given as goal
+
+abbrev pub invariant-loop-failing : goal.invariant-loop-failing
+invariant-loop-failing l = record {
+  failing : IsFailing l.place l.failing;
+  least : KeepsLeastFailure (box_at l.place l.step) (box_at l.place l.failing.step);
+}
+
+abbrev pub decreases-loop-failing : goal.decreases-loop-failing
+decreases-loop-failing l = l.failing.step.high - l.failing.step.low

@@ -1,0 +1,11 @@
+//! The least failure of a box: the first durations in dictionary order at which it fails.
+#![tactic(auto)]
+
+pub mod least;
+mod place;
+mod search;
+
+pub use least::least_failure;
+
+#[cfg(test)]
+mod tests;
