@@ -1,5 +1,5 @@
 -- One more end at a choice under which a test fails.
-use Rattle.std.proofs.Common.{◌≡◌, ℕ, ◌+◌, ◌<◌, ◌≤◌, ◌==◌, Bool, true, false, ◌&&◌, ◌||◌, List, [], ◌∷◌, ◌++◌, map, drop, length, get_or, refl, ap, ap₂, sym, ◌∙◌, arith}
+use Rattle.std.proofs.Common.{◌≡◌, ℕ, ◌+◌, ◌<◌, ◌≤◌, ◌==◌, Bool, true, false, ◌&&◌, ◌||◌, List, [], ◌∷◌, ◌++◌, map, drop, length, get_or, refl, ap, ap₂, sym, ◌∙◌}
 use Rattle.std.proofs.lemmas.List.{at_drop_more, drop_all}
 use Rattle.std.proofs.lemmas.List.Elements.{Contains-append_left, Contains-append_right}
 use Rattle.std.proofs.lemmas.List.Folds.{list_any-append}
@@ -12,7 +12,7 @@ use Rattle.stp_strength.specs.Windows.{Point}
 use Rattle.stp_strength.specs.Failures.{sublists}
 use Rattle.stp_strength.specs.Splitting.{apply, passes_all}
 use Rattle.stp_strength.specs.Views.{point_of, points_of}
-use Rattle.stp_inside.specs.Choices.{applied, steps_in, IsFailingChoice, FailsWith}
+use Rattle.stp_inside.specs.Choices.{applied, steps_in, FailsWith}
 
 -- the ends from a place on
 pub ends_from : (ends : List Window) (place : ℕ) (end : Window) → place < length ends → end ≡ get_or ends place end → points_of (drop place ends) ≡ point_of end ∷ points_of (drop (place + 1) ends)

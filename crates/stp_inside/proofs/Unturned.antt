@@ -1,5 +1,5 @@
 -- Events that change none of the atoms that a condition reads.
-use Rattle.std.proofs.Common.{◌≡◌, ℕ, ◌+◌, ◌<◌, ◌==◌, Bool, true, false, not, ◌&&◌, ◌||◌, List, [], ◌∷◌, map, drop, length, get_or, filter, ◌⊎◌, inl, inr, refl, ap, ap₂, sym, ◌∙◌, subst, arith, true≢false, eqb-true}
+use Rattle.std.proofs.Common.{◌≡◌, ℕ, ◌+◌, ◌<◌, ◌==◌, Bool, true, false, not, ◌&&◌, ◌||◌, List, [], ◌∷◌, drop, length, get_or, filter, inl, inr, refl, ap, ap₂, sym, ◌∙◌, arith, true≢false, eqb-true}
 use Rattle.std.specs.List.{list_any}
 use Rattle.std.proofs.lemmas.Bool.{cases_Bool}
 use Rattle.std.proofs.lemmas.List.{at_drop_more}
@@ -10,7 +10,7 @@ use Rattle.stp_cond.specs.Events.{event_of}
 use Rattle.stp_cond.specs.Truth.{reads_only, meaning_of}
 use Rattle.stp_cond.specs.Views.{atoms_of}
 use Rattle.stp_cond.proofs.Reading.{truth_reads_its_atoms}
-use Rattle.stp_happen.proofs.Members.{passing_member, any_passes, and_both}
+use Rattle.stp_happen.proofs.Members.{passing_member, any_passes}
 use Rattle.stp_strength.specs.declared.windows.Window.{Window}
 use Rattle.stp_strength.specs.Windows.{Point}
 use Rattle.stp_strength.specs.Splitting.{apply, passes_all}

@@ -1,4 +1,4 @@
-use Rattle.std.proofs.Common.{◌≡◌, ◌+◌, ◌<◌, ◌≤◌, true, false, drop, length, arith, rules, ap, sym, ◌∙◌}
+use Rattle.std.proofs.Common.{◌≡◌, false, arith, rules, ap, sym, ◌∙◌}
 use Rattle.stp_cond.specs.Events.{event_of}
 use Rattle.stp_cond.specs.Truth.{meaning_of, state_of_row}
 use Rattle.stp_cond.specs.Views.{atoms_of}
