@@ -1,13 +1,10 @@
 -- Verdicts on boxes in an arena.
-use Rattle.std.proofs.Common.{◌≡◌, ◌↔◌, ℕ, true, false, List, [], ◌∷◌, Option, Some, None, MatchOption, is_some, true≢false, refl, ap₂, sym, subst}
-use Rattle.stp_cond.specs.Truth.{meaning_of}
-use Rattle.stp_cond.specs.declared.cond.Cond.TheVariants.{True}
+use Rattle.std.proofs.Common.{◌≡◌, ◌↔◌, ℕ, true, false, List, [], ◌∷◌, Option, Some, None, MatchOption, is_some, true≢false, refl, ap, sym, ◌∙◌, subst}
 use Rattle.stp_happen.specs.declared.boxes.BoxRun.{BoxRun}
 use Rattle.stp_happen.specs.Boxes.{IsStrong, IsVector, PlainBox, plain_box}
 use Rattle.stp_happen.specs.LeastFailure.{IsFailure}
 use Rattle.stp_strength.specs.declared.windows.Window.{Window}
 use Rattle.stp_strength.specs.declared.windows.NumberedStep.{NumberedStep}
-use Rattle.stp_strength.specs.Windows.{Point, OpenSpan, WindowBox, IsProper}
 use Rattle.stp_strength.specs.Boxed.{windows_in}
 use Rattle.stp_strength.specs.Failures.{all_calm, all_pairs_pass, stay_apart}
 use Rattle.stp_strength.specs.Steps.{durations_of}
@@ -15,6 +12,8 @@ use Rattle.stp_strength.specs.Views.{points_of, spans_of}
 use Rattle.stp_strength.proofs.Durations.{durations_of_choice}
 use Rattle.stp_strength.proofs.Gaps.{failures_mean_weakness}
 use Rattle.stp_strength.proofs.WellMade.{boxes_are_well_made, boxes_have_proper_windows}
+use Rattle.stp_inside.specs.InBoxes.{AreOfBox}
+use Rattle.stp_inside.proofs.InBoxes.{broken_in_boxes, late_steps_fail}
 use Rattle.stp_inside.specs.Late.{IsBroken, IsKept, box_inside}
 use Rattle.stp_check.specs.declared.choices.Choice.{Choice}
 use Rattle.stp_check.specs.declared.verdicts.Verdict.{Verdict}
@@ -23,44 +22,20 @@ use Rattle.stp_check.specs.Choices.{late, near_to, moment_of}
 use Rattle.stp_check.specs.Pairs.{AreNotApart, AreNotCalm}
 use Rattle.stp_check.specs.Verdicts.{IsVerdictOn, ExecutesEarliest}
 use Rattle.stp_check.proofs.Timing.{moment_is_choice}
-use Rattle.stp_check.proofs.Missing.{overlap_fails, meeting_fails, broken_fails, strong_if_kept}
+use Rattle.stp_check.proofs.Missing.{late_is_corner, overlap_fails, meeting_fails, strong_if_kept}
 
 pub vector_of_choice : (boxed : BoxRun) (choice : Choice) (ds : List ℕ) → ds ≡ durations_of (plain_box boxed) (moment_of choice) → IsVector (plain_box boxed).steps ds
 vector_of_choice boxed choice ds e =
     subst (IsVector (plain_box boxed).steps) (sym e)
     (durations_of_choice (plain_box boxed) (boxes_are_well_made boxed) (moment_of choice) (moment_is_choice (windows_in boxed) (boxes_have_proper_windows boxed) choice)).vector
 
--- ---- what has to hold inside does not depend on the goal
+-- ---- what has to hold inside
 
--- the same windows and spans, with a goal that always holds
-abbrev pub without_goal : WindowBox → WindowBox
-without_goal b = record b { goal = meaning_of True }
-
-same_but_goal : (boxed : BoxRun) (windows : List Window) (spans : List NumberedStep) → points_of windows ≡ (windows_in boxed).points → spans_of spans ≡ (windows_in boxed).spans →
-    box_inside windows spans boxed.initial ≡ without_goal (windows_in boxed)
-same_but_goal boxed windows spans e f =
-    let box : List Point → List OpenSpan → WindowBox = λ ps os. record { points = ps; spans = os; initial = boxed.initial; goal = meaning_of True } in
-    ap₂ box e f
-
-proper_without : (b : WindowBox) → IsProper b → IsProper (without_goal b)
-proper_without b p = record { ordered = p.ordered; reading = p.reading; parted = p.parted; started = p.started; owned = p.owned }
-
-pub proper_for_inside : (boxed : BoxRun) (windows : List Window) (spans : List NumberedStep) → points_of windows ≡ (windows_in boxed).points → spans_of spans ≡ (windows_in boxed).spans →
-    IsProper (box_inside windows spans boxed.initial)
-proper_for_inside boxed windows spans e f = subst IsProper (sym (same_but_goal boxed windows spans e f)) (proper_without (windows_in boxed) (boxes_have_proper_windows boxed))
-
-pub kept_in_box : (boxed : BoxRun) (windows : List Window) (spans : List NumberedStep) → points_of windows ≡ (windows_in boxed).points → spans_of spans ≡ (windows_in boxed).spans →
-    IsKept (box_inside windows spans boxed.initial) → IsKept (windows_in boxed)
-kept_in_box boxed windows spans e f kept = subst IsKept (same_but_goal boxed windows spans e f) kept
-
-with_its_goal : (b : WindowBox) (steps : List ℕ) → IsBroken (without_goal b) steps → IsBroken b steps
-with_its_goal b steps (s, t, h) = (s, t, record { there = h.there; from = h.from; to = h.to; own = h.own; fails = h.fails; few = h.few })
-
-pub broken_box_fails : (boxed : BoxRun) (windows : List Window) (spans : List NumberedStep) → points_of windows ≡ (windows_in boxed).points → spans_of spans ≡ (windows_in boxed).spans → all_calm (windows_in boxed) ≡ true →
+pub broken_box_fails : (boxed : BoxRun) (windows : List Window) (spans : List NumberedStep) → AreOfBox boxed windows spans → all_calm (windows_in boxed) ≡ true →
     (steps : List ℕ) → IsBroken (box_inside windows spans boxed.initial) steps → (ds : List ℕ) → ds ≡ durations_of (plain_box boxed) (late steps) → IsFailure (plain_box boxed) ds
-broken_box_fails boxed windows spans e f calm steps broken ds is =
-    subst (IsFailure (plain_box boxed)) (sym is)
-    (broken_fails (plain_box boxed) (boxes_are_well_made boxed) calm steps (with_its_goal (windows_in boxed) steps (subst (λ b. IsBroken b steps) (same_but_goal boxed windows spans e f) broken)))
+broken_box_fails boxed windows spans are calm steps broken ds is =
+    subst (IsFailure (plain_box boxed)) (sym (is ∙ ap (durations_of (plain_box boxed)) (late_is_corner steps)))
+    (late_steps_fail boxed steps calm (broken_in_boxes boxed windows spans steps are broken))
 
 -- ---- two steps
 

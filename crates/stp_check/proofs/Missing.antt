@@ -8,7 +8,7 @@ use Rattle.stp_happen.specs.LeastFailure.{IsFailure}
 use Rattle.stp_happen.specs.Plain.{Executes, AreCalm, AreApart, IsFed}
 use Rattle.stp_happen.proofs.Members.{each_of, all_of, all_pairs, of_mapped, of_mapped_pairs}
 use Rattle.stp_strength.specs.Windows.{Point, OpenSpan, WindowBox, Meet, run_when, entry_at, span_at, IsInWindow, IsChoice, IsProper}
-use Rattle.stp_strength.specs.Facts.{StayApart, StayCalm, IsFedAlways, at_last, state_at}
+use Rattle.stp_strength.specs.Facts.{StayApart, StayCalm, IsFedAlways, at_last}
 use Rattle.stp_strength.specs.Choices.{corner, nearest}
 use Rattle.stp_strength.specs.Failures.{all_calm, all_pairs_pass, of_steps, stay_apart, stay_calm}
 use Rattle.stp_strength.specs.Steps.{IsWellMade, durations_of, windows_of}
@@ -17,9 +17,9 @@ use Rattle.stp_strength.proofs.Certainty.{before_is_certain, end_is_last}
 use Rattle.stp_strength.proofs.Durations.{durations_of_choice}
 use Rattle.stp_strength.proofs.Gaps.{apart_told, calm_test, calm_facts, each_pair_passes}
 use Rattle.stp_strength.proofs.Proper.{windows_proper}
-use Rattle.stp_strength.proofs.Sound.{ordered, started, kept_or_fails}
+use Rattle.stp_strength.proofs.Sound.{ordered, started}
 use Rattle.stp_strength.proofs.Strong.{strong_exactly_where_sound}
-use Rattle.stp_inside.specs.Late.{IsBroken, IsKept, is_on_time}
+use Rattle.stp_inside.specs.Late.{IsKept, is_on_time}
 use Rattle.stp_check.specs.Choices.{late, near_to}
 use Rattle.stp_check.specs.Pairs.{AreNotApart, AreNotCalm}
 use Rattle.stp_check.specs.Verdicts.{ExecutesEarliest}
@@ -137,22 +137,12 @@ meeting_fails box w one other time found =
 
 -- ---- what has to hold inside
 
-late_is_corner : (steps : List ℕ) → late steps ≡ corner (is_on_time steps)
+pub late_is_corner : (steps : List ℕ) → late steps ≡ corner (is_on_time steps)
 late_is_corner steps = fun_ext (λ p. by_test (of_steps steps p) p.low p.high)
   where
     by_test : (b : Bool) (m n : ℕ) → cond b n m ≡ cond (not b) m n
     by_test true m n = refl
     by_test false m n = refl
-
-pub broken_fails : (box : PlainBox) → All IsWellMade box.steps → all_calm (windows_of box) ≡ true → (steps : List ℕ) → IsBroken (windows_of box) steps → IsFailure box (durations_of box (late steps))
-broken_fails box w calm steps (s, t, broken) =
-    let b = windows_of box in
-    let proper = windows_proper box w in
-    let on_time = is_on_time steps in
-    fails_when box w (late steps) (late_is_choice b proper steps) (λ x.
-    missing (s.over (state_at b t on_time))
-    (kept_or_fails b proper (calm_facts b calm) s broken.there t on_time (subst (λ v. Executes (run_when b v)) (late_is_corner steps) x) broken.from broken.to broken.own)
-    broken.fails)
 
 -- ---- where nothing is missing
 

@@ -141,8 +141,7 @@ fn failing(alloc: Global, boxed: &BoxRun<'_>) -> Result<Option<List<u128>>, Memo
 
 /// Whether a box is strong, and else durations on its own grid at which it fails.
 ///
-/// These are as short as the fault allows that was found: only the steps that take part in it end later
-/// than they could.
+/// Only the steps that take part in the fault that was found end later than they could.
 pub fn strong(alloc: Global, boxed: &BoxRun<'_>) -> Result<Verdict, Memory>
     ensures verdict { IfOk result (λ v. IsVerdictOn (plain_box boxed.now) v) }
     ensures exactly { IfOk result (λ v. (v ≡ Verdict.Strong) ↔ IsStrong (plain_box boxed.now)) }

@@ -3,3 +3,4 @@ pub mod Carried
 pub mod Coming
 pub mod Judging
 pub mod Moments
+pub mod InBoxes

@@ -6,7 +6,11 @@ mod choices;
 pub mod finding;
 mod held;
 mod late;
+pub mod laws;
 mod rows;
 mod touching;
 
 pub use finding::first_broken;
+
+#[cfg(test)]
+mod tests;

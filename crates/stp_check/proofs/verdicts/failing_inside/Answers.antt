@@ -3,18 +3,19 @@ use Rattle.stp_base.specs.declared.ids.StepId.{StepId}
 use Rattle.stp_happen.specs.Boxes.{plain_box}
 use Rattle.stp_strength.specs.Steps.{durations_of}
 use Rattle.stp_inside.specs.Late.{numbers_of}
+use Rattle.stp_inside.proofs.InBoxes.{these_are_proper, kept_in_boxes}
 use Rattle.stp_check.specs.Choices.{late}
-use Rattle.stp_check.proofs.Judged.{proper_for_inside, kept_in_box, broken_box_fails}
+use Rattle.stp_check.proofs.Judged.{broken_box_fails}
 use Rattle.stp_check.proofs.verdicts.failing_inside.Goals as goal
 
 pub first_broken-requires-clause-proper : goal.first_broken-requires-clause-proper
-first_broken-requires-clause-proper c = proper_for_inside c.args.boxed.now c.args.windows.now c.args.spans.now c.requires.windows c.requires.spans
+first_broken-requires-clause-proper c = these_are_proper c.args.boxed.now c.args.windows.now c.args.spans.now (record { windows_are = c.requires.windows; spans_are = c.requires.spans })
 
 pub returns-in_default : goal.returns-in_default
-returns-in_default c = kept_in_box c.args.boxed.now c.args.windows.now c.args.spans.now c.requires.windows c.requires.spans (rw c.in_default.is at c.in_ok-late.ensures)
+returns-in_default c = kept_in_boxes c.args.boxed.now c.args.windows.now c.args.spans.now (record { windows_are = c.requires.windows; spans_are = c.requires.spans }) (rw c.in_default.is at c.in_ok-late.ensures)
 
 pub returns : goal.returns
 returns c =
     let boxed = c.args.boxed.now in
-    broken_box_fails boxed c.args.windows.now c.args.spans.now c.requires.windows c.requires.spans c.requires.calm (numbers_of c.in-Some.late) (rw c.in-Some.is at c.in_ok-late.ensures) c.in_ok-broken.broken
+    broken_box_fails boxed c.args.windows.now c.args.spans.now (record { windows_are = c.requires.windows; spans_are = c.requires.spans }) c.requires.calm (numbers_of c.in-Some.late) (rw c.in-Some.is at c.in_ok-late.ensures) c.in_ok-broken.broken
     (c.in_ok-broken.ensures.chosen ∙ ap (λ (ss : List StepId). durations_of (plain_box boxed) (late (numbers_of ss))) c.as_slice.ensures)
