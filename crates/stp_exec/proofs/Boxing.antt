@@ -1,0 +1,78 @@
+-- The atoms, the steps and the box of placed steps.
+use Rattle.std.proofs.Common.{◌≡◌, ℕ, ◌+◌, ◌<◌, ◌≤◌, Bool, List, [], ◌∷◌, ◌++◌, length, map, drop, get_or, refl, sym, ap, ◌∙◌, append_assoc}
+use Rattle.std.proofs.lemmas.List.{append-nil, drop_more, drop_all, map_push}
+use Rattle.stp_schema.specs.Views.{PlainProblem}
+use Rattle.stp_atoms.specs.Atoms.{Atom}
+use Rattle.stp_cond.specs.declared.cond.Cond.{Cond}
+use Rattle.stp_cond.specs.Formulas.{view}
+use Rattle.stp_cond.specs.Truth.{meaning_of}
+use Rattle.stp_instance.specs.Numbered.{with_atoms}
+use Rattle.stp_instance.proofs.Gathered.{with_both}
+use Rattle.stp_ground.specs.Problems.{is_fact, goal_of, initial_atoms, goal_atoms}
+use Rattle.stp_ground.specs.Ground.{atoms_of_chosen, left_of}
+use Rattle.stp_happen.specs.declared.boxes.BoxStep.{BoxStep}
+use Rattle.stp_happen.specs.Boxes.{PlainStep, PlainBox, step_of, steps_of}
+use Rattle.stp_exec.specs.declared.placed.Placed.{Placed}
+use Rattle.stp_exec.specs.Placed.{PlainPlaced}
+use Rattle.stp_exec.specs.Views.{plain_placed}
+use Rattle.stp_exec.specs.Plans.{meaning, step_in, atoms_of_steps, atoms_of_plan, box_over, box_on}
+use Rattle.stp_exec.proofs.Stepping.{meaning_is}
+
+at_item : {A : Type 0} (xs : List A) (i : ℕ) (x : A) → i < length xs → get_or xs i x ≡ x → drop i xs ≡ x ∷ drop (i + 1) xs
+at_item xs i x h is = drop_more xs i x h ∙ ap (λ y. y ∷ drop (i + 1) xs) is
+
+-- ---- atoms
+
+-- the atoms so far, once the steps that are left have theirs
+abbrev pub AreNumbered : PlainProblem → List Atom → List Atom → ℕ → List Placed → Type 0
+AreNumbered p old now i placed = with_atoms now (atoms_of_steps p (map plain_placed (drop i placed))) ≡ with_atoms old (atoms_of_steps p (map plain_placed placed))
+
+pub numbered_more : (p : PlainProblem) (old now new : List Atom) (i : ℕ) (placed : List Placed) (s : Placed) → i < length placed → get_or placed i s ≡ s → new ≡ with_atoms now (atoms_of_chosen p (plain_placed s).chosen) → AreNumbered p old now i placed → AreNumbered p old new (i + 1) placed
+numbered_more p old now new i placed s h is e so_far =
+    let rest = atoms_of_steps p (map plain_placed (drop (i + 1) placed)) in
+    ap (λ t. with_atoms t rest) e
+    ∙ sym (with_both now (atoms_of_chosen p (plain_placed s).chosen) rest)
+    ∙ ap (λ l. with_atoms now (atoms_of_steps p (map plain_placed l))) (sym (at_item placed i s h is))
+    ∙ so_far
+
+pub numbered_all : (p : PlainProblem) (old now : List Atom) (i : ℕ) (placed : List Placed) → length placed ≤ i → AreNumbered p old now i placed → now ≡ with_atoms old (atoms_of_steps p (map plain_placed placed))
+numbered_all p old now i placed h so_far =
+    sym (ap (λ l. with_atoms now (atoms_of_steps p (map plain_placed l))) (drop_all i placed h)) ∙ so_far
+
+-- the tables, one after the other, of a problem that stays the same
+pub plan_numbered : (p q : PlainProblem) → q ≡ p → (placed : List PlainPlaced) (none first second third : List Atom) → none ≡ [] → first ≡ with_atoms none (initial_atoms p) → second ≡ with_atoms first (goal_atoms p) → third ≡ with_atoms second (atoms_of_steps q placed) → third ≡ atoms_of_plan p placed
+plan_numbered p q same placed none first second third a b c d =
+    d
+    ∙ ap (λ r. with_atoms second (atoms_of_steps r placed)) same
+    ∙ ap (λ t. with_atoms t (atoms_of_steps p placed)) (c ∙ ap (λ t. with_atoms t (goal_atoms p)) (b ∙ ap (λ t. with_atoms t (initial_atoms p)) a))
+
+-- ---- steps
+
+abbrev pub AreStepped : (PlainPlaced → PlainStep) → List BoxStep → ℕ → List Placed → Type 0
+AreStepped made steps i placed = steps_of steps ++ map made (map plain_placed (drop i placed)) ≡ map made (map plain_placed placed)
+
+pub stepped_more : (made : PlainPlaced → PlainStep) (steps : List BoxStep) (one : BoxStep) (i : ℕ) (placed : List Placed) (s : Placed) → i < length placed → get_or placed i s ≡ s → step_of one ≡ made (plain_placed s) → AreStepped made steps i placed → AreStepped made (steps ++ one ∷ []) (i + 1) placed
+stepped_more made steps one i placed s h is e so_far =
+    let rest = map made (map plain_placed (drop (i + 1) placed)) in
+    ap (λ l. l ++ rest) (map_push step_of steps one)
+    ∙ append_assoc (steps_of steps) (step_of one ∷ []) rest
+    ∙ ap (λ x. steps_of steps ++ x ∷ rest) e
+    ∙ ap (λ l. steps_of steps ++ map made (map plain_placed l)) (sym (at_item placed i s h is))
+    ∙ so_far
+
+pub stepped_all : (made : PlainPlaced → PlainStep) (steps : List BoxStep) (i : ℕ) (placed : List Placed) → length placed ≤ i → AreStepped made steps i placed → steps_of steps ≡ map made (map plain_placed placed)
+stepped_all made steps i placed h so_far =
+    sym (append-nil (steps_of steps))
+    ∙ ap (λ l. steps_of steps ++ map made (map plain_placed l)) (sym (drop_all i placed h))
+    ∙ so_far
+
+-- ---- the box
+
+abbrev pub the_box : List PlainStep → List Bool → Cond → PlainBox
+the_box steps initial goal = record { steps = steps; initial = initial; goal = meaning_of goal }
+
+module _ (p : PlainProblem) (table : List Atom) (grid : ℕ) (placed : List PlainPlaced) where
+  pub box_is : (steps : List PlainStep) (initial : List Bool) (goal : Cond) → table ≡ atoms_of_plan p placed → steps ≡ map (step_in p table grid placed) placed → initial ≡ map (is_fact p) table → view goal ≡ left_of p table (goal_of p) → the_box steps initial goal ≡ box_on grid p placed
+  box_is steps initial goal numbered stepped first left =
+      (λ i. record { steps = stepped i; initial = first i; goal = (meaning_is goal ∙ ap meaning left) i })
+      ∙ ap (λ t. box_over p t grid placed) numbered
