@@ -1,117 +1,128 @@
--- The case of two trees and a plan's bytes, by what each of them is.
-use Rattle.std.proofs.Common.{◌≡◌, ℕ, List, length, Option, Some, None, Result, Ok, Err, refl, sym, ap, ◌∙◌}
-use Rattle.std.specs.Prelude.{option_map}
+-- The case that bytes make, by what each part of them is.
+use Rattle.std.proofs.Common.{◌≡◌, ◌≢◌, ℕ, List, Option, Some, None, Result, Ok, Err, refl, sym, ap, ◌∙◌}
 use Rattle.stp_text.specs.Tree.{Tree}
 use Rattle.stp_text.specs.Reading.{tree_of}
-use Rattle.stp_happen.specs.Boxes.{PlainStep}
-use Rattle.stp_plain.specs.Plain.{PlainDomain, PlainProblem, plain_domain, plain_problem}
-use Rattle.stp_plain.specs.Meaning.{DomainMeaning, ProblemMeaning, meaning_of_domain, meaning_of_problem}
-use Rattle.stp_plain.proofs.Callers.{read_from, none_from}
-use Rattle.stp_plain.proofs.Rows.{length_row}
-use Rattle.stp_cli.specs.declared.case.CaseFault.{CaseFault}
-use Rattle.stp_cli.specs.declared.case.CaseFault.TheVariants.{Refused}
-use Rattle.stp_offence.specs.declared.code.Code.TheVariants.{N00}
-use Rattle.stp_report.specs.declared.answer.FileName.TheVariants as files
-use Rattle.stp_cli.specs.Planned.{planned}
-use Rattle.stp_cli.specs.Refusals.{refusal}
-use Rattle.stp_cli.specs.Case.{tree_or, read_or, box_in, plain_case, case_of}
-use Rattle.stp_schema.specs.Views.{PlainDomain as WholeDomain, PlainProblem as WholeProblem}
+use Rattle.stp_schema.specs.Views.{PlainDomain, PlainProblem}
 use Rattle.stp_domain.specs.Reading.{domain_or_refusal}
 use Rattle.stp_problem.specs.Reading.{problem_or_refusal}
+use Rattle.stp_plan.specs.Steps.{PlainStep}
+use Rattle.stp_plan.specs.Plans.{plan_of}
+use Rattle.stp_exec.specs.declared.fault.ExecFault.{ExecFault}
+use Rattle.stp_exec.specs.declared.fault.ExecFault.TheVariants as execs
+use Rattle.stp_exec.specs.Placed.{PlainPlaced, placed_from}
+use Rattle.stp_exec.specs.Boxed.{beyond_limits}
+use Rattle.stp_report.specs.declared.answer.Answer.{Answer}
+use Rattle.stp_report.specs.declared.answer.Answer.TheVariants as answers
+use Rattle.stp_report.specs.declared.answer.FileName.TheVariants as files
+use Rattle.stp_cli.specs.Words.{Command}
+use Rattle.stp_cli.specs.Refusals.{◌>>=◌, or_refusal, text_refusal, read_refusal, plan_refusal, exec_refusal, IsOrRefused}
+use Rattle.stp_cli.specs.Case.{PlainCase, case_with, task_of, steps_of, case_of}
+use Rattle.stp_cli.specs.Judging.{IsJudgedCase, IsJudgedSteps}
+use Rattle.stp_cli.specs.Outcome.{IsJudged}
+use Rattle.stp_cli.specs.declared.refusal.CaseFault.{CaseFault}
+use Rattle.stp_cli.specs.declared.refusal.CaseFault.TheVariants as faults
 use Rattle.stp_cli.specs.declared.refusal.Refusal.{Refusal}
 
-module _ (domain problem : Tree) (plan : List ℕ) where
-  pub no_domain : plain_domain domain ≡ None → plain_case domain problem plan ≡ Err (refusal files.Domain N00 0)
-  unfolding plain_case
-  no_domain d = rw d refl
-
-  pub no_problem : (world : PlainDomain) → plain_domain domain ≡ Some world → plain_problem world problem ≡ None → plain_case domain problem plan ≡ Err (refusal files.Problem N00 0)
-  unfolding plain_case
-  no_problem world d p = rw (d, p) refl
-
-  pub no_plan : (world : PlainDomain) (task : PlainProblem) → plain_domain domain ≡ Some world → plain_problem world problem ≡ Some task → planned (meaning_of_domain world) plan ≡ None → plain_case domain problem plan ≡ Err (refusal files.Plan N00 0)
-  unfolding plain_case
-  no_plan world task d p l = rw (d, p, l) refl
-
-  pub a_case : (world : PlainDomain) (task : PlainProblem) (steps : List PlainStep) → plain_domain domain ≡ Some world → plain_problem world problem ≡ Some task → planned (meaning_of_domain world) plan ≡ Some steps → plain_case domain problem plan ≡ Ok (box_in (meaning_of_problem (length world.predicates) task) steps)
-  unfolding plain_case
-  a_case world task steps d p l = rw (d, p, l) refl
-
-module _ (domain problem plan : List ℕ) where
-  pub refused_domain : (r : Refusal) → tree_or files.Domain (tree_of domain) ≡ Err r → case_of domain problem plan ≡ Err r
-  unfolding case_of
-  refused_domain r d = rw d refl
-
-  module _ (t : Tree) (is_tree : tree_or files.Domain (tree_of domain) ≡ Ok t) where
-    pub refused_world : (r : Refusal) → read_or files.Domain (domain_or_refusal t) ≡ Err r → case_of domain problem plan ≡ Err r
-    unfolding case_of
-    refused_world r w = rw (is_tree, w) refl
-
-    module _ (world : WholeDomain) (is_world : read_or files.Domain (domain_or_refusal t) ≡ Ok world) where
-      pub refused_problem : (r : Refusal) → tree_or files.Problem (tree_of problem) ≡ Err r → case_of domain problem plan ≡ Err r
-      unfolding case_of
-      refused_problem r p = rw (is_tree, is_world, p) refl
-
-      module _ (u : Tree) (is_problem : tree_or files.Problem (tree_of problem) ≡ Ok u) where
-        pub refused_task : (r : Refusal) → read_or files.Problem (problem_or_refusal world u) ≡ Err r → case_of domain problem plan ≡ Err r
-        unfolding case_of
-        refused_task r k = rw (is_tree, is_world, is_problem, k) refl
-
-        pub by_trees : (task : WholeProblem) → read_or files.Problem (problem_or_refusal world u) ≡ Ok task → case_of domain problem plan ≡ plain_case t u plan
-        unfolding case_of
-        by_trees task k = rw (is_tree, is_world, is_problem, k) refl
+-- ---- faults
 
 abbrev failed : {A : Type 0} → CaseFault → Result A CaseFault
 failed fault = Err fault
 
--- what a fault tells of its refusal
-pub same_refusal : {A : Type 0} (fault : CaseFault) (one other : Refusal) → fault ≡ Refused one → failed {A = A} fault ≡ failed (Refused other) → one ≡ other
-same_refusal fault one other e f = cc
-
-module _ (domain problem : Tree) (plan : List ℕ) (world : DomainMeaning) (is_world : option_map meaning_of_domain (plain_domain domain) ≡ Some world) where
-  -- the problem under each domain that means this world
-  abbrev Tells : Option ProblemMeaning → Type 0
-  Tells task = (d : PlainDomain) → world ≡ meaning_of_domain d → option_map (meaning_of_problem (length d.predicates)) (plain_problem d problem) ≡ task
-
-  abbrev TheDomain : Type 0
-  TheDomain = (d : PlainDomain) × (plain_domain domain ≡ Some d) × (meaning_of_domain d ≡ world)
-
-  the_domain : TheDomain
-  the_domain = read_from meaning_of_domain (plain_domain domain) world is_world
-
-  no_problem_of : TheDomain → Tells None → plain_case domain problem plan ≡ Err (refusal files.Problem N00 0)
-  no_problem_of (d, is, means) none = no_problem domain problem plan d is (none_from (meaning_of_problem (length d.predicates)) (plain_problem d problem) (none d (sym means)))
-
-  pub no_problem_read : Tells None → plain_case domain problem plan ≡ Err (refusal files.Problem N00 0)
-  no_problem_read = no_problem_of the_domain
-
-  module _ (task : ProblemMeaning) (is_task : Tells (Some task)) where
-    abbrev TheProblem : PlainDomain → Type 0
-    TheProblem d = (p : PlainProblem) × (plain_problem d problem ≡ Some p) × (meaning_of_problem (length d.predicates) p ≡ task)
-
-    the_problem : (d : PlainDomain) → meaning_of_domain d ≡ world → TheProblem d
-    the_problem d means = read_from (meaning_of_problem (length d.predicates)) (plain_problem d problem) task (is_task d (sym means))
-
-    no_plan_of : (w : TheDomain) → TheProblem w.0 → planned world plan ≡ None → plain_case domain problem plan ≡ Err (refusal files.Plan N00 0)
-    no_plan_of (d, is, means) (p, there, says) none = no_plan domain problem plan d p is there (ap (λ (w : DomainMeaning). planned w plan) means ∙ none)
-
-    pub no_plan_read : planned world plan ≡ None → plain_case domain problem plan ≡ Err (refusal files.Plan N00 0)
-    no_plan_read = no_plan_of the_domain (the_problem the_domain.0 the_domain.2)
-
-    case_of_all : (w : TheDomain) → TheProblem w.0 → (steps : List PlainStep) → planned world plan ≡ Some steps → plain_case domain problem plan ≡ Ok (box_in task steps)
-    case_of_all (d, is, means) (p, there, says) steps some = a_case domain problem plan d p steps is there (ap (λ (w : DomainMeaning). planned w plan) means ∙ some) ∙ ap (λ (m : ProblemMeaning). Ok (box_in m steps)) says
-
-    pub case_read : (steps : List PlainStep) → planned world plan ≡ Some steps → plain_case domain problem plan ≡ Ok (box_in task steps)
-    case_read = case_of_all the_domain (the_problem the_domain.0 the_domain.2)
-
-    length_of : (w : TheDomain) → TheProblem w.0 → length task.initial ≡ length world.predicates
-    length_of (d, is, means) (p, there, says) =
-        sym (ap (λ (m : ProblemMeaning). length m.initial) says) ∙ (length_row (length d.predicates) p.initial ∙ ap (λ (w : DomainMeaning). length w.predicates) means)
-
-    -- the first state has a value for each predicate
-    pub length_read : length task.initial ≡ length world.predicates
-    length_read = length_of the_domain (the_problem the_domain.0 the_domain.2)
-
 -- the same fault as the answer to another question
 pub refused_alike : {A B : Type 0} (fault other : CaseFault) → failed {A = A} fault ≡ failed other → failed {A = B} fault ≡ failed other
 refused_alike {B = B} fault other e = let same : fault ≡ other = cc in ap (failed {A = B}) same
+
+-- what a fault tells of its refusal
+pub same_refusal : (one other : Refusal) → faults.Refused one ≡ faults.Refused other → one ≡ other
+same_refusal one other e = cc
+
+-- a fault of steps, made into one of the case that is a refusal, is no want of memory
+pub exec_told : (fault : ExecFault) (made : CaseFault) (r : Refusal) → (fault ≡ execs.Memory → made ≡ faults.Memory) → (fault ≢ execs.Memory → made ≡ faults.Refused (exec_refusal fault)) → failed {A = ℕ} made ≡ Err (faults.Refused r) → (fault ≢ execs.Memory) × (exec_refusal fault ≡ r)
+exec_told (execs.Step step code) made r memory refused was =
+    let no : execs.Step step code ≢ execs.Memory = λ e. cc in
+    let e = refused no in
+    (no, cc)
+exec_told execs.GridTooFine made r memory refused was =
+    let no : execs.GridTooFine ≢ execs.Memory = λ e. cc in
+    let e = refused no in
+    (no, cc)
+exec_told (execs.TimeTooLarge step) made r memory refused was =
+    let no : execs.TimeTooLarge step ≢ execs.Memory = λ e. cc in
+    let e = refused no in
+    (no, cc)
+exec_told execs.Memory made r memory refused was = let e = memory refl in absurd (cc)
+
+-- ---- the problem
+
+module _ (domain problem : List ℕ) where
+  pub refused_domain : (r : Refusal) → or_refusal (text_refusal files.Domain) (tree_of domain) ≡ Err r → task_of domain problem ≡ Err r
+  unfolding task_of
+  refused_domain r d = rw d refl
+
+  module _ (t : Tree) (is_tree : or_refusal (text_refusal files.Domain) (tree_of domain) ≡ Ok t) where
+    pub refused_world : (r : Refusal) → or_refusal (read_refusal files.Domain) (domain_or_refusal t) ≡ Err r → task_of domain problem ≡ Err r
+    unfolding task_of
+    refused_world r w = rw (is_tree, w) refl
+
+    module _ (world : PlainDomain) (is_world : or_refusal (read_refusal files.Domain) (domain_or_refusal t) ≡ Ok world) where
+      pub refused_problem : (r : Refusal) → or_refusal (text_refusal files.Problem) (tree_of problem) ≡ Err r → task_of domain problem ≡ Err r
+      unfolding task_of
+      refused_problem r p = rw (is_tree, is_world, p) refl
+
+      pub by_trees : (u : Tree) → or_refusal (text_refusal files.Problem) (tree_of problem) ≡ Ok u → task_of domain problem ≡ or_refusal (read_refusal files.Problem) (problem_or_refusal world u)
+      unfolding task_of
+      by_trees u p = rw (is_tree, is_world, p) refl
+
+-- ---- the steps
+
+module _ (task : PlainProblem) (plan : List ℕ) where
+  pub refused_lines : (r : Refusal) → or_refusal plan_refusal (plan_of plan) ≡ Err r → steps_of task plan ≡ Err r
+  unfolding steps_of
+  refused_lines r l = rw l refl
+
+  module _ (lines : List PlainStep) (are_lines : or_refusal plan_refusal (plan_of plan) ≡ Ok lines) where
+    pub refused_step : (fault : ExecFault) → placed_from 1 task lines ≡ Err fault → steps_of task plan ≡ Err (exec_refusal fault)
+    unfolding steps_of
+    refused_step fault e = rw (are_lines, e) refl
+
+    module _ (placed : List PlainPlaced) (are_placed : placed_from 1 task lines ≡ Ok placed) where
+      pub refused_limit : (fault : ExecFault) → beyond_limits placed ≡ Some fault → steps_of task plan ≡ Err (exec_refusal fault)
+      unfolding steps_of
+      refused_limit fault e = rw (are_lines, are_placed, e) refl
+
+      pub are_steps : beyond_limits placed ≡ None → steps_of task plan ≡ Ok placed
+      unfolding steps_of
+      are_steps e = rw (are_lines, are_placed, e) refl
+
+-- ---- the answer
+
+refused_or : {A : Type 0} (right : A → Answer → Type 0) (r : Result A Refusal) (refusal : Refusal) (answer : Answer) → r ≡ Err refusal → answer ≡ answers.Refused refusal.file refusal.code refusal.at → IsOrRefused right r answer
+refused_or right r refusal answer e is = rw e is
+
+or_right : {A : Type 0} (right : A → Answer → Type 0) (r : Result A Refusal) (a : A) (answer : Answer) → r ≡ Ok a → right a answer → IsOrRefused right r answer
+or_right right r a answer e is = rw e is
+
+with_steps : (right : PlainCase → Answer → Type 0) (task : PlainProblem) (answer : Answer) (steps : Result (List PlainPlaced) Refusal) → IsOrRefused (λ s. right (case_with task s)) steps answer → IsOrRefused right (steps >>= (λ s. Ok (case_with task s))) answer
+with_steps right task answer (Err refusal) h = h
+with_steps right task answer (Ok steps) h = h
+
+module _ (command : Command) (domain problem plan : List ℕ) (answer : Answer) where
+  task_refused : (refusal : Refusal) → task_of domain problem ≡ Err refusal → case_of domain problem plan ≡ Err refusal
+  unfolding case_of
+  task_refused refusal e = rw e refl
+
+  pub judged_refused : (refusal : Refusal) → task_of domain problem ≡ Err refusal → answer ≡ answers.Refused refusal.file refusal.code refusal.at → IsJudged command domain problem plan answer
+  judged_refused refusal e is = refused_or (IsJudgedCase command) (case_of domain problem plan) refusal answer (task_refused refusal e) is
+
+  by_task : (task : PlainProblem) → task_of domain problem ≡ Ok task → case_of domain problem plan ≡ (steps_of task plan >>= (λ s. Ok (case_with task s)))
+  unfolding case_of
+  by_task task e = rw e refl
+
+  pub judged_with : (task : PlainProblem) → task_of domain problem ≡ Ok task → IsJudgedSteps command task plan answer → IsJudged command domain problem plan answer
+  judged_with task e h = rw (by_task task e) (with_steps (IsJudgedCase command) task answer (steps_of task plan) h)
+
+  pub steps_refused : (task : PlainProblem) (refusal : Refusal) → steps_of task plan ≡ Err refusal → answer ≡ answers.Refused refusal.file refusal.code refusal.at → IsJudgedSteps command task plan answer
+  steps_refused task refusal e is = refused_or (λ s. IsJudgedCase command (case_with task s)) (steps_of task plan) refusal answer e is
+
+  pub steps_judged : (task : PlainProblem) (steps : List PlainPlaced) → steps_of task plan ≡ Ok steps → IsJudgedCase command (case_with task steps) answer → IsJudgedSteps command task plan answer
+  steps_judged task steps e is = or_right (λ s. IsJudgedCase command (case_with task s)) (steps_of task plan) steps answer e is

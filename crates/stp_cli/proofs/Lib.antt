@@ -1,5 +1,6 @@
-mod Planning
 mod Loading
+mod Writing
 mod Casing
 mod Verdicts
-mod Writing
+mod Vectors
+mod Replays

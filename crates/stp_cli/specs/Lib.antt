@@ -1,8 +1,11 @@
 pub mod Words
 pub mod Named
 pub mod Refusals
-pub mod Planned
 pub mod Case
+pub mod Cases
+pub mod Replies
 pub mod Verdict
+pub mod Replay
+pub mod Judging
 pub mod Outcome
 pub mod Exit

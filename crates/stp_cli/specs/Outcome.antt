@@ -11,8 +11,11 @@ use Rattle.stp_report.specs.declared.answer.FileName.TheVariants as files
 use Rattle.stp_report.specs.Texts.{text_of}
 use Rattle.stp_cli.specs.declared.status.Status.{Status}
 use Rattle.stp_cli.specs.declared.status.Status.TheVariants as statuses
-use Rattle.stp_cli.specs.Words.{Names, files_of}
-use Rattle.stp_cli.specs.Verdict.{IsJudged}
+use Rattle.stp_cli.specs.Words.{Names, Command, command_of, names_of_command}
+use Rattle.stp_cli.specs.Case.{case_of}
+use Rattle.stp_cli.specs.Refusals.{IsOrRefused}
+use Rattle.stp_cli.specs.Replies.{status_of}
+use Rattle.stp_cli.specs.Judging.{IsJudgedCase}
 
 -- ---- the files
 
@@ -22,9 +25,13 @@ IsLoaded file None rest answer = ⊥
 IsLoaded file (Some bytes) rest answer = MatchBool (nat_lt 1048576 (length bytes)) (answer ≡ answers.Refused file F01 1048576) (rest bytes answer)
 
 -- the answer on three files, which are loaded one after another
-abbrev pub IsAnswer : Option (List ℕ) → Option (List ℕ) → Option (List ℕ) → Answer → Type 0
-IsAnswer domain problem plan =
-    IsLoaded files.Domain domain (λ d. IsLoaded files.Problem problem (λ p. IsLoaded files.Plan plan (λ l. IsJudged d p l)))
+abbrev pub IsAnswer : (List ℕ → List ℕ → List ℕ → Answer → Type 0) → Option (List ℕ) → Option (List ℕ) → Option (List ℕ) → Answer → Type 0
+IsAnswer judged domain problem plan =
+    IsLoaded files.Domain domain (λ d. IsLoaded files.Problem problem (λ p. IsLoaded files.Plan plan (λ l. judged d p l)))
+
+-- what is right on the bytes of the three files of a command: the first refusal, or what is right on the case that they make
+abbrev pub IsJudged : Command → List ℕ → List ℕ → List ℕ → Answer → Type 0
+IsJudged command domain problem plan answer = IsOrRefused (IsJudgedCase command) (case_of domain problem plan) answer
 
 -- a file that is there and not too long
 abbrev pub IsFine : Option (List ℕ) → Type 0
@@ -65,22 +72,22 @@ IsFaultOf reads names files.Plan = IsReadFault reads names.plan × AreFine reads
 IsFaultOf reads names files.Durations = ⊥
 
 -- where the files are told, the answer is the one on these files
-abbrev pub IsAnswerOn : StoreCall → Names → Answer → Type 0
-IsAnswerOn reads names answer = IfSome reads.told (λ file. IsAnswer (file names.domain) (file names.problem) (file names.plan) answer)
+abbrev pub IsAnswerOn : StoreCall → Command → Answer → Type 0
+IsAnswerOn reads command answer = IfSome reads.told (λ file. let names = names_of_command command in IsAnswer (IsJudged command) (file names.domain) (file names.problem) (file names.plan) answer)
 
 -- when an answer may come to a command
-abbrev pub IsAllowedTo : StoreCall → Names → Answer → Type 0
-IsAllowedTo reads names (answers.Strong steps uncertain grid) = IsAnswerOn reads names (answers.Strong steps uncertain grid)
-IsAllowedTo reads names (answers.Weak grid durations fault) = IsAnswerOn reads names (answers.Weak grid durations fault)
-IsAllowedTo reads names (answers.Replay run fault) = ⊥
-IsAllowedTo reads names (answers.Refused file code at) = IsAnswerOn reads names (answers.Refused file code at)
-IsAllowedTo reads names (answers.ReadFault file) = IsFaultOf reads names file
-IsAllowedTo reads names answers.Usage = ⊥
+abbrev pub IsAllowedTo : StoreCall → Command → Answer → Type 0
+IsAllowedTo reads command (answers.Strong steps uncertain grid) = IsAnswerOn reads command (answers.Strong steps uncertain grid)
+IsAllowedTo reads command (answers.Weak grid durations fault) = IsAnswerOn reads command (answers.Weak grid durations fault)
+IsAllowedTo reads command (answers.Replay run fault) = IsAnswerOn reads command (answers.Replay run fault)
+IsAllowedTo reads command (answers.Refused file code at) = IsAnswerOn reads command (answers.Refused file code at)
+IsAllowedTo reads command (answers.ReadFault file) = IsFaultOf reads (names_of_command command) file
+IsAllowedTo reads command answers.Usage = ⊥
 
 -- usage exactly where the words are no command
-abbrev pub IsAllowed : StoreCall → Option Names → Answer → Type 0
+abbrev pub IsAllowed : StoreCall → Option Command → Answer → Type 0
 IsAllowed reads None answer = answer ≡ answers.Usage
-IsAllowed reads (Some names) answer = IsAllowedTo reads names answer
+IsAllowed reads (Some command) answer = IsAllowedTo reads command answer
 
 -- the answer where a file was not loaded
 abbrev pub IsUnloaded : FileName → LoadFault → Answer → Type 0
@@ -89,15 +96,6 @@ IsUnloaded file loads.TooLong answer = answer ≡ answers.Refused file F01 10485
 IsUnloaded file loads.Memory answer = ⊥
 
 -- ---- what is left behind
-
-abbrev pub status_of : Answer → Status
-status_of (answers.Strong steps uncertain grid) = statuses.Done
-status_of (answers.Weak grid durations fault) = statuses.No
-status_of (answers.Replay run None) = statuses.Done
-status_of (answers.Replay run (Some fault)) = statuses.No
-status_of (answers.Refused file code at) = statuses.Refused
-status_of (answers.ReadFault file) = statuses.OutsideFault
-status_of answers.Usage = statuses.Usage
 
 -- this was appended, and nothing else
 abbrev pub HasAppended : SinkCall → List ℕ → Type 0
@@ -118,4 +116,4 @@ pub record IsBroken (writes : SinkCall) (status : Status) (answer : Answer) : Ty
 abbrev pub IsOutcome : StoreCall → SinkCall → List (List ℕ) → Status → Type 0
 IsOutcome reads writes words status =
     ((status ≡ statuses.Memory) × (writes.written_after ≡ writes.written))
-    ⊎ ((answer : Answer) × IsAllowed reads (files_of words) answer × (IsWritten writes status answer ⊎ IsBroken writes status answer))
+    ⊎ ((answer : Answer) × IsAllowed reads (command_of words) answer × (IsWritten writes status answer ⊎ IsBroken writes status answer))

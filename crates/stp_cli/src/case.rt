@@ -1,86 +1,40 @@
 //! The case that three files make.
 
-ghost use Rattle.std.specs.Prelude.{◌≡◌, ◌≢◌, ◌≤◌, ℕ, false, length, All, option_map, IfOk, IfSome, Ok, Err};
+ghost use Rattle.std.specs.Prelude.{◌≡◌, ◌≢◌, ◌≤◌, ℕ, true, length, map, All, IfOk, MatchResult, Ok, Err};
 ghost use Rattle.stp_text.specs.Tree.{view, nodes};
 ghost use Rattle.stp_text.specs.Reading.{tree_of};
-ghost use Rattle.stp_happen.specs.Boxes.{steps_of, plain_box};
-ghost use Rattle.stp_happen.specs.SoundBox.{IsBoxStep};
-ghost use Rattle.stp_plain.specs.Views.{view_of_domain};
-ghost use Rattle.stp_plain.specs.ProblemViews.{view_of_problem};
-ghost use Rattle.stp_cli.specs.Planned.{planned};
-ghost use Rattle.stp_offence.specs.declared.code.Code.{Code as TheCode};
 ghost use Rattle.stp_schema.specs.Views.{domain_of, problem_of};
 ghost use Rattle.stp_domain.specs.Reading.{domain_or_refusal};
 ghost use Rattle.stp_problem.specs.Reading.{HasTypedConstants, problem_or_refusal};
-ghost use Rattle.stp_cli.specs.Refusals.{refusal};
-ghost use Rattle.stp_cli.specs.Case.{refusal_of, tree_or, read_or, box_in, plain_case, case_of};
-ghost use Rattle.stp_cli.specs.declared.case.CaseFault.TheVariants.{Memory as OutOfMemory};
+ghost use Rattle.stp_plan.specs.Laws.{IsAbove, IsLawfulPlan};
+ghost use Rattle.stp_plan.specs.Plans.{plan_of};
+ghost use Rattle.stp_plan.specs.Views.{plain_plan};
+ghost use Rattle.stp_exec.specs.Boxed.{placed_or_fault};
+ghost use Rattle.stp_cli.specs.Refusals.{or_refusal, text_refusal, read_refusal, plan_refusal, exec_refusal};
+ghost use Rattle.stp_cli.specs.Case.{task_of, steps_of};
+ghost use Rattle.stp_cli.specs.Cases.{StandsFor, IsReadAs};
 ghost use Rattle.stp_cli.specs.declared.refusal.Refusal.{Refusal as TheRefusal};
 
-use crate::bind::bind;
-use crate::refusal::Refusal;
+use crate::refusal::{CaseFault, exec_refused, plan_refused, read_refused, text_refused};
 use bumpalo::Bump;
 use std::alloc::Global;
-use stp_base::{List, Memory};
+use stp_base::List;
 use stp_domain::read_domain;
-use stp_happen::{BoxRun, BoxStep};
-use stp_offence::{Code, ReadFault};
-use stp_plain::{
-    Domain, Problem, read_domain as read_plain_domain, read_problem as read_plain_problem,
-};
+use stp_exec::{box_placed, place, timed};
+use stp_ground::World;
+use stp_happen::BoxRun;
+use stp_plan::{Plan, read_plan};
 use stp_problem::read_problem;
 use stp_report::FileName;
-use stp_schema::{Domain as WholeDomain, Problem as WholeProblem};
-use stp_steps::read_steps;
-use stp_text::{Sexpr, TextFault, tree};
-use thiserror::Error;
+use stp_schema::{Domain, Problem};
+use stp_text::{Sexpr, tree};
+use stp_timing::TimedStep;
 
-/// Why there is no case.
-#[derive(Clone, Copy, Debug, PartialEq, Eq, Error)]
-pub enum CaseFault {
-    /// A file is refused.
-    #[error("a file is refused")]
-    Refused(Refusal),
-    /// Memory was refused.
-    #[error("out of memory")]
-    Memory,
-}
-
-impl From<Memory> for CaseFault {
-    ghost from_gives = { λ _ fault. fault ≡ OutOfMemory };
-
-    fn from(_error: Memory) -> CaseFault {
-        CaseFault::Memory
-    }
-}
-
-fn refused(file: FileName, code: Code, at: u32) -> CaseFault
-    ensures { result ≡ CaseFault.Refused (record { file = file; code = code; at = at }) }
-{
-    CaseFault::Refused(Refusal { file, code, at })
-}
-
-/// A file that is not plain.
-fn not_plain(file: FileName) -> CaseFault
-    ensures { result ≡ CaseFault.Refused (record { file = file; code = Code.N00; at = 0 }) }
-{
-    refused(file, Code::N00, 0)
-}
-
-/// A text's fault as a refusal of its file.
-fn text_refused(file: FileName, fault: TextFault) -> CaseFault
-    ensures memory { fault ≡ TextFault.Memory → result ≡ CaseFault.Memory }
-    ensures refused { fault ≢ TextFault.Memory → result ≡ CaseFault.Refused (refusal_of file fault) }
-{
-    match fault {
-        TextFault::BadByte(at) => refused(file, Code::T01, at),
-        TextFault::StrayClose(at) => refused(file, Code::T02, at),
-        TextFault::TooDeep(at) => refused(file, Code::T03, at),
-        TextFault::Unclosed(at) => refused(file, Code::T04, at),
-        TextFault::WordTooLong(at) => refused(file, Code::T05, at),
-        TextFault::NotOneList(at) => refused(file, Code::T06, at),
-        TextFault::Memory => CaseFault::Memory,
-    }
+/// The box of a plan's steps on the base grid, and when the steps are.
+#[derive(Drop)]
+pub struct Case<'a> {
+    pub boxed: BoxRun<'a>,
+    pub times: Vec<TimedStep>,
 }
 
 /// The tree of a file's bytes.
@@ -91,9 +45,8 @@ fn read_tree<'a>(
     bytes: &[u8],
 ) -> Result<&'a Sexpr<'a>, CaseFault>
     requires { length bytes.now ≤ 1048576 }
-    ensures ok { IfOk result (λ t. tree_or file (tree_of bytes.now) ≡ Ok (view t.now)) }
-    ensures small { IfOk result (λ t. nodes (view t.now) ≤ 1048576) }
-    ensures refused { (r : TheRefusal) → result ≡ Err (CaseFault.Refused r) → tree_or file (tree_of bytes.now) ≡ Err r }
+    ensures ok { IfOk result (λ t. or_refusal (text_refusal file) (tree_of bytes.now) ≡ Ok (view t.now)) }
+    ensures refused { (r : TheRefusal) → result ≡ Err (CaseFault.Refused r) → or_refusal (text_refusal file) (tree_of bytes.now) ≡ Err r }
 {
     let tree = match tree(alloc, arena, bytes) {
         Ok(tree) => tree,
@@ -105,26 +58,15 @@ fn read_tree<'a>(
     }
 }
 
-/// A reading's fault as a refusal of its file.
-fn read_refused(file: FileName, fault: ReadFault) -> CaseFault
-    ensures memory { fault ≡ ReadFault.Memory → result ≡ CaseFault.Memory }
-    ensures refused { (code : TheCode) (at : ℕ) → fault ≡ ReadFault.Refused code at → result ≡ CaseFault.Refused (refusal file code at) }
-{
-    match fault {
-        ReadFault::Refused { code, at } => refused(file, code, at),
-        ReadFault::Memory => CaseFault::Memory,
-    }
-}
-
 /// The domain of a tree.
 fn whole_domain<'a>(
     alloc: Global,
     arena: &'a Bump,
     tree: &'a Sexpr<'a>,
-) -> Result<WholeDomain<'a>, CaseFault>
-    ensures ok { IfOk result (λ d. read_or FileName.Domain (domain_or_refusal (view tree.now)) ≡ Ok (domain_of d)) }
+) -> Result<Domain<'a>, CaseFault>
+    ensures ok { IfOk result (λ d. or_refusal (read_refusal FileName.Domain) (domain_or_refusal (view tree.now)) ≡ Ok (domain_of d)) }
     ensures fits { IfOk result (λ d. HasTypedConstants (domain_of d)) }
-    ensures refused { (r : TheRefusal) → result ≡ Err (CaseFault.Refused r) → read_or FileName.Domain (domain_or_refusal (view tree.now)) ≡ Err r }
+    ensures refused { (r : TheRefusal) → result ≡ Err (CaseFault.Refused r) → or_refusal (read_refusal FileName.Domain) (domain_or_refusal (view tree.now)) ≡ Err r }
 {
     match read_domain(alloc, arena, tree) {
         Ok(domain) => Ok(domain),
@@ -136,12 +78,12 @@ fn whole_domain<'a>(
 fn whole_problem<'a>(
     alloc: Global,
     arena: &'a Bump,
-    domain: WholeDomain<'a>,
+    domain: Domain<'a>,
     tree: &'a Sexpr<'a>,
-) -> Result<WholeProblem<'a>, CaseFault>
+) -> Result<Problem<'a>, CaseFault>
     requires { HasTypedConstants (domain_of domain) }
-    ensures ok { IfOk result (λ p. read_or FileName.Problem (problem_or_refusal (domain_of domain.entry) (view tree.now)) ≡ Ok (problem_of p)) }
-    ensures refused { (r : TheRefusal) → result ≡ Err (CaseFault.Refused r) → read_or FileName.Problem (problem_or_refusal (domain_of domain.entry) (view tree.now)) ≡ Err r }
+    ensures ok { IfOk result (λ p. or_refusal (read_refusal FileName.Problem) (problem_or_refusal (domain_of domain.entry) (view tree.now)) ≡ Ok (problem_of p)) }
+    ensures refused { (r : TheRefusal) → result ≡ Err (CaseFault.Refused r) → or_refusal (read_refusal FileName.Problem) (problem_or_refusal (domain_of domain.entry) (view tree.now)) ≡ Err r }
 {
     match read_problem(alloc, arena, domain, tree) {
         Ok(problem) => Ok(problem),
@@ -149,86 +91,17 @@ fn whole_problem<'a>(
     }
 }
 
-/// The steps of a plan's bytes in the world of its domain, where the plan is plain and fits it.
-fn plan_steps<'a>(
-    alloc: Global,
-    world: &Domain<'a>,
-    plan: &[u8],
-) -> Result<Option<List<BoxStep<'a>>>, Memory>
-    requires { length plan.now ≤ 1048576 }
-    ensures value { IfOk result (λ r. option_map steps_of r ≡ planned (view_of_domain world.now) plan.now) }
-    ensures lawful { IfOk result (λ r. IfSome r (All (IsBoxStep 1 (length (view_of_domain world.now).predicates)))) }
-    ensures certain { IfOk result (λ r. IfSome r (All (λ s. s.uncertain ≡ false))) }
-    ensures few { IfOk result (λ r. IfSome r (λ steps. length steps ≤ 500)) }
-{
-    let Some(lines) = read_steps(alloc, plan)? else {
-        return Ok(None);
-    };
-    let steps = bind(alloc, world, lines.as_slice())?;
-    Ok(steps)
-}
-
-/// The box of steps from the initial state of a problem to its goal.
-fn boxed<'a>(problem: Problem<'a>, steps: List<BoxStep<'a>>) -> BoxRun<'a>
-    requires lawful { All (IsBoxStep 1 (length problem.initial)) steps }
-    requires few { length steps ≤ 500 }
-    ensures stands { plain_box result ≡ box_in (view_of_problem problem.entry) (steps_of steps.entry) }
-    ensures steps { result.steps ≡ steps.entry }
-    ensures grid { result.grid ≡ 1 }
-{
-    let Problem { initial, goal } = problem;
-    BoxRun {
-        grid: 1,
-        steps,
-        initial,
-        goal,
-    }
-}
-
-/// The case of a domain's and a problem's tree and a plan's bytes.
-fn plain_case<'a>(
-    alloc: Global,
-    arena: &'a Bump,
-    domain: &Sexpr<'a>,
-    problem: &Sexpr<'a>,
-    plan: &[u8],
-) -> Result<BoxRun<'a>, CaseFault>
-    requires domain { nodes (view domain.now) ≤ 1048576 }
-    requires plan { length plan.now ≤ 1048576 }
-    ensures ok { IfOk result (λ b. plain_case (view domain.now) (view problem.now) plan.now ≡ Ok (plain_box b)) }
-    ensures grid { IfOk result (λ b. b.grid ≡ 1) }
-    ensures certain { IfOk result (λ b. All (λ s. s.uncertain ≡ false) b.steps) }
-    ensures few { IfOk result (λ b. length b.steps ≤ 500) }
-    ensures refused { (r : TheRefusal) → result ≡ Err (CaseFault.Refused r) → plain_case (view domain.now) (view problem.now) plan.now ≡ Err r }
-{
-    let Some(world) = read_plain_domain(alloc, arena, domain)? else {
-        return Err(not_plain(FileName::Domain));
-    };
-    let Some(task) = read_plain_problem(alloc, arena, &world, problem)? else {
-        return Err(not_plain(FileName::Problem));
-    };
-    let Some(steps) = plan_steps(alloc, &world, plan)? else {
-        return Err(not_plain(FileName::Plan));
-    };
-    Ok(boxed(task, steps))
-}
-
-/// The case of a domain's, a problem's and a plan's bytes.
-pub fn read_case<'a>(
+/// The problem of a domain's and a problem's bytes.
+pub fn read_task<'a>(
     alloc: Global,
     arena: &'a Bump,
     domain: &[u8],
     problem: &[u8],
-    plan: &[u8],
-) -> Result<BoxRun<'a>, CaseFault>
+) -> Result<Problem<'a>, CaseFault>
     requires domain { length domain.now ≤ 1048576 }
     requires problem { length problem.now ≤ 1048576 }
-    requires plan { length plan.now ≤ 1048576 }
-    ensures ok { IfOk result (λ b. case_of domain.now problem.now plan.now ≡ Ok (plain_box b)) }
-    ensures grid { IfOk result (λ b. b.grid ≡ 1) }
-    ensures certain { IfOk result (λ b. All (λ s. s.uncertain ≡ false) b.steps) }
-    ensures few { IfOk result (λ b. length b.steps ≤ 500) }
-    ensures refused { (r : TheRefusal) → result ≡ Err (CaseFault.Refused r) → case_of domain.now problem.now plan.now ≡ Err r }
+    ensures ok { IfOk result (λ p. task_of domain.now problem.now ≡ Ok (problem_of p)) }
+    ensures refused { (r : TheRefusal) → result ≡ Err (CaseFault.Refused r) → task_of domain.now problem.now ≡ Err r }
 {
     let domain_tree = match read_tree(alloc, arena, FileName::Domain, domain) {
         Ok(tree) => tree,
@@ -242,9 +115,46 @@ pub fn read_case<'a>(
         Ok(tree) => tree,
         Err(fault) => return Err(fault),
     };
-    let _task = match whole_problem(alloc, arena, world, problem_tree) {
-        Ok(task) => task,
+    whole_problem(alloc, arena, world, problem_tree)
+}
+
+/// The plan of a file's bytes.
+fn read_lines(alloc: Global, bytes: &[u8]) -> Result<Plan, CaseFault>
+    requires { length bytes.now ≤ 1048576 }
+    ensures ok { IfOk result (λ plan. or_refusal plan_refusal (plan_of bytes.now) ≡ Ok (plain_plan plan)) }
+    ensures lawful { IfOk result (λ plan. IsLawfulPlan IsAbove (plain_plan plan)) }
+    ensures refused { (r : TheRefusal) → result ≡ Err (CaseFault.Refused r) → or_refusal plan_refusal (plan_of bytes.now) ≡ Err r }
+{
+    match read_plan(alloc, bytes) {
+        Ok(plan) => Ok(plan),
+        Err(fault) => Err(plan_refused(fault)),
+    }
+}
+
+/// The case of a plan's bytes in a problem.
+pub fn read_steps<'a>(
+    alloc: Global,
+    arena: &'a Bump,
+    problem: &'a Problem<'a>,
+    plan: &[u8],
+) -> Result<Case<'a>, CaseFault>
+    requires { length plan.now ≤ 1048576 }
+    ensures ok { IfOk result (λ c. IsReadAs c (problem_of problem.now) (steps_of (problem_of problem.now) plan.now)) }
+    ensures refused { (r : TheRefusal) → result ≡ Err (CaseFault.Refused r) → steps_of (problem_of problem.now) plan.now ≡ Err r }
+{
+    let lines = match read_lines(alloc, plan) {
+        Ok(lines) => lines,
         Err(fault) => return Err(fault),
     };
-    plain_case(alloc, arena, domain_tree, problem_tree, plan)
+    let mut world = World::new(alloc, problem)?;
+    let placed = match place(alloc, arena, &mut world, &lines) {
+        Ok(placed) => placed,
+        Err(fault) => return Err(exec_refused(fault)),
+    };
+    let boxed = match box_placed(alloc, arena, &mut world, placed.as_slice()) {
+        Ok(boxed) => boxed,
+        Err(fault) => return Err(exec_refused(fault)),
+    };
+    let times = timed(alloc, placed.as_slice())?;
+    Ok(Case { boxed, times })
 }

@@ -1,63 +1,70 @@
-//! The answer on the bytes of three files.
+//! Replies on the bytes of three files.
 
-ghost use Rattle.std.specs.Prelude.{◌≡◌, ◌≤◌, false, length, All, IfOk};
-ghost use Rattle.stp_happen.specs.Boxes.{plain_box};
-ghost use Rattle.stp_report.specs.Bounds.{AreTimes};
-ghost use Rattle.stp_cli.specs.Verdict.{IsVerdict, IsJudged};
+ghost use Rattle.std.specs.Prelude.{◌≡◌, ◌≤◌, length, IfOk};
+ghost use Rattle.stp_schema.specs.Views.{problem_of};
+ghost use Rattle.stp_cli.specs.Case.{PlainCase, steps_of};
+ghost use Rattle.stp_cli.specs.Cases.{StandsFor};
+ghost use Rattle.stp_cli.specs.Named.{plain_command};
+ghost use Rattle.stp_cli.specs.Outcome.{IsJudged};
+ghost use Rattle.stp_cli.specs.Replies.{IsReply};
+ghost use Rattle.stp_cli.specs.Judging.{IsJudgedCase, IsJudgedSteps};
 
-use crate::case::{CaseFault, read_case};
-use crate::refusal::Refusal;
+use crate::case::{Case, read_steps, read_task};
+use crate::replay::replay;
+use crate::reply::{Reply, refuse};
+use crate::verdict::verdict;
+use crate::words::Command;
 use bumpalo::Bump;
 use std::alloc::Global;
-use stp_base::{Memory, StateRow};
-use stp_happen::run_at::run_at;
-use stp_happen::{BoxRun, first_fault};
-use stp_report::Answer;
+use stp_base::Memory;
+use stp_schema::Problem;
 
-/// The verdict on a plan whose durations are all fixed.
-fn verdict(alloc: Global, boxed: &BoxRun<'_>) -> Result<Answer<'static>, Memory>
-    requires certain { All (λ s. s.uncertain ≡ false) boxed.now.steps }
-    requires few { length boxed.now.steps ≤ 500 }
-    requires grid { boxed.now.grid ≡ 1 }
-    ensures verdict { IfOk result (IsVerdict (plain_box boxed.now)) }
-    ensures times { IfOk result AreTimes }
+/// The reply to a command on a case.
+fn judge_case(alloc: Global, command: &Command<'_>, case: &Case<'_>) -> Result<Reply, Memory>
+    requires { (c : PlainCase) × StandsFor case.now c }
+    ensures { IfOk result (λ r. (c : PlainCase) → StandsFor case.now c → IsReply (IsJudgedCase (plain_command command.now) c) r.status r.text) }
 {
-    let run = run_at(alloc, boxed, &[])?;
-    let mut row = StateRow::new(alloc, run.initial.len())?;
-    let steps = boxed.steps.as_slice().len() as u32;
-    match first_fault(&run, &mut row) {
-        None => Ok(Answer::Strong {
-            steps,
-            uncertain: 0,
-            grid: 1,
-        }),
-        Some(fault) => Ok(Answer::Weak {
-            grid: 1,
-            durations: &[],
-            fault,
-        }),
+    match command {
+        Command::Check(_) => verdict(alloc, &case.boxed),
+        Command::Replay(_, list) => replay(alloc, case, list.as_bytes()),
     }
 }
 
-/// The answer on the bytes of a domain, a problem and a plan.
+/// The reply to a command on a problem and the bytes of a plan.
+fn judge_plan<'a>(
+    alloc: Global,
+    arena: &'a Bump,
+    command: &Command<'_>,
+    problem: &'a Problem<'a>,
+    plan: &[u8],
+) -> Result<Reply, Memory>
+    requires { length plan.now ≤ 1048576 }
+    ensures { IfOk result (λ r. IsReply (IsJudgedSteps (plain_command command.now) (problem_of problem.now) plan.now) r.status r.text) }
+{
+    let case = match read_steps(alloc, arena, problem, plan) {
+        Ok(case) => case,
+        Err(fault) => return refuse(alloc, fault),
+    };
+    judge_case(alloc, command, &case)
+}
+
+/// The reply to a command on the bytes of a domain, a problem and a plan.
 pub fn judge(
     alloc: Global,
+    command: &Command<'_>,
     domain: &[u8],
     problem: &[u8],
     plan: &[u8],
-) -> Result<Answer<'static>, Memory>
+) -> Result<Reply, Memory>
     requires domain { length domain.now ≤ 1048576 }
     requires problem { length problem.now ≤ 1048576 }
     requires plan { length plan.now ≤ 1048576 }
-    ensures judged { IfOk result (IsJudged domain.now problem.now plan.now) }
-    ensures times { IfOk result AreTimes }
+    ensures { IfOk result (λ r. IsReply (IsJudged (plain_command command.now) domain.now problem.now plan.now) r.status r.text) }
 {
     let arena = Bump::new(alloc);
-    match read_case(alloc, &arena, domain, problem, plan) {
-        Ok(boxed) => verdict(alloc, &boxed),
-        Err(CaseFault::Refused(Refusal { file, code, at })) => {
-            Ok(Answer::Refused { file, code, at })
-        }
-        Err(CaseFault::Memory) => Err(Memory),
-    }
+    let task = match read_task(alloc, &arena, domain, problem) {
+        Ok(task) => task,
+        Err(fault) => return refuse(alloc, fault),
+    };
+    judge_plan(alloc, &arena, command, &task, plan)
 }

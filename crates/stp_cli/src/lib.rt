@@ -1,15 +1,15 @@
 //! The top call: what the program does for a list of words.
 #![tactic(auto)]
 
-mod bind;
 mod case;
 mod judge;
 mod refusal;
+mod replay;
+mod reply;
 mod status;
 mod steady;
-#[cfg(test)]
-mod tests;
 mod top;
+mod verdict;
 mod words;
 
 pub use status::Status;

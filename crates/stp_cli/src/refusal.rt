@@ -1,7 +1,16 @@
-//! Refusals of files.
+//! Refusals of files, and why there is no case.
 
-use stp_offence::Code;
+ghost use Rattle.std.specs.Prelude.{◌≡◌, ◌≢◌, ℕ, Ok, Err};
+ghost use Rattle.stp_cli.specs.Refusals.{refusal, text_refusal, read_refusal, plan_refusal, exec_refusal};
+ghost use Rattle.stp_cli.specs.declared.refusal.CaseFault.TheVariants.{Memory as OutOfMemory};
+
+use stp_base::Memory;
+use stp_exec::ExecFault;
+use stp_offence::{Code, ReadFault};
+use stp_plan::PlanFault;
 use stp_report::FileName;
+use stp_text::TextFault;
+use thiserror::Error;
 
 /// A file that is refused: by which code, and where in it.
 #[derive(Clone, Copy, Debug, PartialEq, Eq)]
@@ -9,4 +18,82 @@ pub struct Refusal {
     pub file: FileName,
     pub code: Code,
     pub at: u32,
+}
+
+/// Why there is no case.
+#[derive(Clone, Copy, Debug, PartialEq, Eq, Error)]
+pub enum CaseFault {
+    /// A file is refused.
+    #[error("a file is refused")]
+    Refused(Refusal),
+    /// Memory was refused.
+    #[error("out of memory")]
+    Memory,
+}
+
+impl From<Memory> for CaseFault {
+    ghost from_gives = { λ _ fault. fault ≡ OutOfMemory };
+
+    fn from(_error: Memory) -> CaseFault {
+        CaseFault::Memory
+    }
+}
+
+/// A refusal of a file.
+pub(crate) fn refused(file: FileName, code: Code, at: u32) -> CaseFault
+    ensures { result ≡ CaseFault.Refused (refusal file code at) }
+{
+    CaseFault::Refused(Refusal { file, code, at })
+}
+
+/// A text's fault as a refusal of its file.
+pub(crate) fn text_refused(file: FileName, fault: TextFault) -> CaseFault
+    ensures memory { fault ≡ TextFault.Memory → result ≡ CaseFault.Memory }
+    ensures refused { fault ≢ TextFault.Memory → result ≡ CaseFault.Refused (text_refusal file fault) }
+{
+    match fault {
+        TextFault::BadByte(at) => refused(file, Code::T01, at),
+        TextFault::StrayClose(at) => refused(file, Code::T02, at),
+        TextFault::TooDeep(at) => refused(file, Code::T03, at),
+        TextFault::Unclosed(at) => refused(file, Code::T04, at),
+        TextFault::WordTooLong(at) => refused(file, Code::T05, at),
+        TextFault::NotOneList(at) => refused(file, Code::T06, at),
+        TextFault::Memory => CaseFault::Memory,
+    }
+}
+
+/// A reading's fault as a refusal of its file.
+pub(crate) fn read_refused(file: FileName, fault: ReadFault) -> CaseFault
+    ensures memory { fault ≡ ReadFault.Memory → result ≡ CaseFault.Memory }
+    ensures refused { fault ≢ ReadFault.Memory → result ≡ CaseFault.Refused (read_refusal file fault) }
+{
+    match fault {
+        ReadFault::Refused { code, at } => refused(file, code, at),
+        ReadFault::Memory => CaseFault::Memory,
+    }
+}
+
+/// A fault of a plan's text as a refusal of the plan.
+pub(crate) fn plan_refused(fault: PlanFault) -> CaseFault
+    ensures memory { fault ≡ PlanFault.Memory → result ≡ CaseFault.Memory }
+    ensures refused { fault ≢ PlanFault.Memory → result ≡ CaseFault.Refused (plan_refusal fault) }
+{
+    match fault {
+        PlanFault::BadLine(line) => refused(FileName::Plan, Code::L01, line),
+        PlanFault::TooManySteps(line) => refused(FileName::Plan, Code::L02, line),
+        PlanFault::Memory => CaseFault::Memory,
+    }
+}
+
+/// A fault of a plan's steps as a refusal of the plan.
+pub(crate) fn exec_refused(fault: ExecFault) -> CaseFault
+    ensures memory { fault ≡ ExecFault.Memory → result ≡ CaseFault.Memory }
+    ensures refused { fault ≢ ExecFault.Memory → result ≡ CaseFault.Refused (exec_refusal fault) }
+{
+    match fault {
+        ExecFault::Step(step, code) => refused(FileName::Plan, code, step.0),
+        ExecFault::GridTooFine => refused(FileName::Plan, Code::X10, 0),
+        ExecFault::TimeTooLarge(step) => refused(FileName::Plan, Code::X11, step.0),
+        ExecFault::Memory => CaseFault::Memory,
+    }
 }

@@ -165,4 +165,4 @@ text_of (answers.Weak grid durations fault) = line (codes "not strong") ++ line 
 text_of (answers.Replay run fault) = entry_lines run.now.grid run.now.spans run.now.entries ++ ending_line run.now.grid fault
 text_of (answers.Refused file code at) = line (codes "refused " ++ file_text file ++ codes " " ++ code_text code ++ codes " at " ++ decimal at)
 text_of (answers.ReadFault file) = line (codes "fault read " ++ file_text file)
-text_of answers.Usage = line (codes "usage: stp check DOMAIN PROBLEM PLAN")
+text_of answers.Usage = line (codes "usage: stp check DOMAIN PROBLEM PLAN") ++ line (codes "       stp replay DOMAIN PROBLEM PLAN --durations LIST")

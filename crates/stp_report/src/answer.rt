@@ -12,9 +12,10 @@ pub enum FileName {
     Durations,
 }
 
-/// What the program answers. Moments and durations are counted on the grid beside them.
+/// What the program answers. Moments and durations are counted on the grid beside them. A run is lent for less
+/// long than the formulas that it points to.
 #[derive(Clone, Copy)]
-pub enum Answer<'a> {
+pub enum Answer<'r, 'a> {
     /// The plan has so many steps, so many of them uncertain, and this base grid, and is strong.
     Strong {
         steps: u32,
@@ -24,12 +25,12 @@ pub enum Answer<'a> {
     /// The plan is not strong: under these durations its run has this first fault.
     Weak {
         grid: u128,
-        durations: &'a [u128],
+        durations: &'r [u128],
         fault: Fault,
     },
     /// A run, and its first fault, if it has one.
     Replay {
-        run: &'a Run<'a>,
+        run: &'r Run<'a>,
         fault: Option<Fault>,
     },
     /// A file is refused, at a place of it.

@@ -125,8 +125,23 @@ fn push_read_fault(alloc: Global, file: FileName, out: &mut Text) -> Result<(), 
     out.push(words.as_bytes())
 }
 
+/// Appends which words are commands.
+fn push_usage(out: &mut Text) -> Result<(), Memory>
+    ensures { OnOk result
+        (out.new
+        ≡ out.old
+        ++ line (codes "usage: stp check DOMAIN PROBLEM PLAN")
+        ++ line (codes "       stp replay DOMAIN PROBLEM PLAN --durations LIST")) }
+{
+    push_words("usage: stp check DOMAIN PROBLEM PLAN\n", out)?;
+    push_words(
+        "       stp replay DOMAIN PROBLEM PLAN --durations LIST\n",
+        out,
+    )
+}
+
 /// Appends the text of an answer.
-fn push_answer(alloc: Global, answer: &Answer<'_>, out: &mut Text) -> Result<(), Memory>
+fn push_answer(alloc: Global, answer: &Answer<'_, '_>, out: &mut Text) -> Result<(), Memory>
     requires { AreTimes answer.now }
     ensures { OnOk result (out.new ≡ out.old ++ text_of answer.now) }
 {
@@ -144,12 +159,12 @@ fn push_answer(alloc: Global, answer: &Answer<'_>, out: &mut Text) -> Result<(),
         Answer::Replay { run, fault } => push_replay(alloc, run, *fault, out),
         Answer::Refused { file, code, at } => push_refused(alloc, *file, *code, *at, out),
         Answer::ReadFault(file) => push_read_fault(alloc, *file, out),
-        Answer::Usage => push_words("usage: stp check DOMAIN PROBLEM PLAN\n", out),
+        Answer::Usage => push_usage(out),
     }
 }
 
 /// The text of an answer, whose times are on their grids.
-pub fn print_answer(alloc: Global, answer: &Answer<'_>) -> Result<Text, Memory>
+pub fn print_answer(alloc: Global, answer: &Answer<'_, '_>) -> Result<Text, Memory>
     requires { AreTimes answer.now }
     ensures { IfOk result (λ t. t ≡ text_of answer.now) }
 {

@@ -1,0 +1,146 @@
+-- Runs under durations that fit a case.
+use Rattle.std.proofs.Common.{◌≡◌, ℕ, ◌+◌, ◌*◌, ◌/◌, ◌<◌, ◌≤◌, List, map, length, All, Option, Some, None, Result, Ok, Err, Bor, refl, sym, ap, subst, ◌∙◌, arith, mul_comm}
+use Rattle.std.specs.Prelude.{◌↔◌, IsNone, IfSome, MatchOption}
+use Prim.Native.Nat.{◌∣◌}
+use Rattle.std.proofs.Math.Nat.{div-mul_cancel, dvd_refl}
+use Rattle.std.proofs.lemmas.List.Elements.{All-map}
+use Rattle.stp_frac.specs.Divisors.{divides}
+use Rattle.stp_frac.specs.Fractions.{Fraction, value_of}
+use Rattle.stp_frac.specs.declared.frac.Frac.{Frac}
+use Rattle.stp_frac.proofs.Divisors.{lcm_multiple_left, lcm_pos}
+use Rattle.stp_happen.specs.Plain.{PlainRun, Executes}
+use Rattle.stp_happen.specs.Faults.{IsFirstFault}
+use Rattle.stp_happen.specs.Orders.{IsInSomeOrder}
+use Rattle.stp_happen.specs.Runs.{plain_run}
+use Rattle.stp_happen.specs.Boxes.{PlainBox, IsVector, run_under, finer_box, finer_step, plain_box}
+use Rattle.stp_happen.specs.declared.run.Run.{Run}
+use Rattle.stp_happen.specs.declared.fault.Fault.{Fault}
+use Rattle.stp_report.specs.declared.answer.Answer.{Answer}
+use Rattle.stp_report.specs.declared.answer.Answer.TheVariants as answers
+use Rattle.stp_report.specs.Bounds.{IsFaultTime}
+use Rattle.stp_report.proofs.FaultTimes.{fault_times}
+use Rattle.stp_timing.specs.declared.timed.TimedStep.{TimedStep}
+use Rattle.stp_timing.specs.Lists.{durations_in}
+use Rattle.stp_timing.specs.Timed.{base_grid, count_of, lies_on, plain_timed, is_lawful_timed}
+use Rattle.stp_timing.specs.Fitting.{judge_list, grid_with}
+use Rattle.stp_timing.proofs.Bounds.{Lies}
+use Rattle.stp_timing.proofs.TimedSteps.{base_pos, steps_lie}
+use Rattle.stp_timing.proofs.Fits.{common, common_positive, met_lie}
+use Rattle.stp_exec.specs.Plans.{atoms_of_plan}
+use Rattle.stp_cli.specs.declared.case.Case.{Case}
+use Rattle.stp_cli.specs.Case.{PlainCase, times_of, grid_of, box_of}
+use Rattle.stp_cli.specs.Cases.{StandsFor}
+use Rattle.stp_cli.specs.Replay.{list_read, IsRunWith, IsReplayedCase}
+use Rattle.stp_cli.proofs.Vectors.{IsOn, fitting, judged_well}
+
+-- ---- runs
+
+-- the first fault of a run has a time
+pub some_times : (run : Run) (o : Option Fault) → IfSome o (IsFirstFault (plain_run run)) → IfSome o (IsFaultTime run.grid)
+some_times run None h = tt
+some_times run (Some f) h = fault_times run f h
+
+judged_by : (run other : PlainRun) (fault : Option Fault) → Executes run ↔ Executes other → ((f : Fault) → IsFirstFault run f ↔ IsFirstFault other f) → IsNone fault ↔ Executes run → IfSome fault (IsFirstFault run) → MatchOption fault (Executes other) (IsFirstFault other)
+judged_by run other None same faults none first = same.0 (none.0 refl)
+judged_by run other (Some f) same faults none first = (faults f).0 first
+
+-- the run of a box, and its first fault
+pub run_with : (grid : ℕ) (box : PlainBox) (durations : List ℕ) (run : Run) (fault : Option Fault) → run.grid ≡ grid → IsInSomeOrder (plain_run run) (run_under box durations)
+    → Executes (plain_run run) ↔ Executes (run_under box durations) → ((f : Fault) → IsFirstFault (plain_run run) f ↔ IsFirstFault (run_under box durations) f)
+    → IsNone fault ↔ Executes (plain_run run) → IfSome fault (IsFirstFault (plain_run run))
+    → (shown : Bor Run) → shown.now ≡ run → (answer : Answer) → answer ≡ answers.Replay shown fault → IsRunWith grid box durations answer
+run_with grid box durations run fault g order same faults none first shown is answer e =
+    subst (IsRunWith grid box durations) (sym e)
+    (ap (λ (r : Run). r.grid) is ∙ g, subst (λ (r : Run). IsInSomeOrder (plain_run r) (run_under box durations)) (sym is) order, judged_by (plain_run run) (run_under box durations) fault same faults none first)
+
+-- ---- the grid
+
+module _ (c : PlainCase) (times : List TimedStep) (are : map plain_timed times ≡ times_of c) (ds : List Frac) where
+  abbrev pub whole : ℕ
+  whole = grid_with (times_of c) (map value_of ds)
+
+  abbrev pub factor : ℕ
+  factor = whole / grid_of c
+
+  grid_pos : 0 < grid_of c
+  grid_pos = subst (λ ts. 0 < base_grid ts) are (base_pos times)
+
+  grid_divides : grid_of c ∣ whole
+  grid_divides = lcm_multiple_left (grid_of c) (common ds) grid_pos (common_positive ds)
+
+  factor_times : factor * grid_of c ≡ whole
+  factor_times = div-mul_cancel (grid_of c) grid_divides
+
+  pub times_factor : grid_of c * factor ≡ whole
+  times_factor = mul_comm (grid_of c) factor ∙ factor_times
+
+  whole_pos : 0 < whole
+  whole_pos = lcm_pos (grid_of c) (common ds) grid_pos (common_positive ds)
+
+  positive : (k g n : ℕ) → k * g ≡ n → 0 < n → 0 < k
+  positive zero g n e h = absurd (omega (arith, e, h))
+  positive (suc k) g n e h = omega arith
+
+  pub factor_pos : 0 < factor
+  factor_pos = positive factor (grid_of c) whole factor_times whole_pos
+
+  -- ---- the vector
+
+  on_grid : All (λ (t : TimedStep). is_lawful_timed (plain_timed t) ≡ true) times → All (IsOn (grid_of c)) (times_of c)
+  on_grid lawful =
+      let lie : All (λ step. lies_on (grid_of c) (plain_timed step) ≡ true) times = steps_lie times (grid_of c) (subst (λ ts. base_grid (map plain_timed times) ∣ base_grid ts) are (dvd_refl (base_grid (map plain_timed times)))) in
+      subst (All (IsOn (grid_of c))) are (All-map (IsOn (grid_of c)) plain_timed times (λ k d h. (lie k d h, lawful k d h)))
+
+  all_lie : All (Lies (factor * grid_of c)) (map value_of ds)
+  all_lie = subst (λ n. All (Lies n) (map value_of ds)) (sym factor_times) (All-map (Lies whole) value_of ds (met_lie (grid_of c) whole ds grid_pos refl))
+
+  pub fitted_vector : All (λ (t : TimedStep). is_lawful_timed (plain_timed t) ≡ true) times → judge_list (times_of c) (map value_of ds) ≡ None → IsVector (finer_box factor (box_of c)).steps (map (count_of whole) (map value_of ds))
+  fitted_vector lawful judged =
+      let well = judged_well (times_of c) (map value_of ds) judged in
+      subst (λ n. IsVector (finer_box factor (box_of c)).steps (map (count_of n) (map value_of ds))) factor_times
+      (fitting factor (grid_of c) factor_pos grid_pos c.task (atoms_of_plan c.task c.steps) c.steps c.steps 1 (map value_of ds) (on_grid lawful) all_lie well.0 well.1)
+
+  pub replayed : (text : List ℕ) (answer : Answer) → list_read (durations_in text) ≡ Ok (map value_of ds) → judge_list (times_of c) (map value_of ds) ≡ None → IsRunWith whole (finer_box factor (box_of c)) (map (count_of whole) (map value_of ds)) answer → IsReplayedCase text c answer
+  replayed text answer read judged run = rw (read, judged) (factor, times_factor, run)
+
+-- ---- the same of a case in an arena
+
+module _ (made : Case) (c : PlainCase) (s : StandsFor made c) where
+  pub base_is : made.boxed.grid ≡ base_grid (map plain_timed made.times.items)
+  base_is = s.grid ∙ ap base_grid (sym s.times)
+
+  module _ (ds : List Frac) (grid : ℕ) (is_grid : grid ≡ grid_with (map plain_timed made.times.items) (map value_of ds)) where
+    grid_whole : grid ≡ whole c made.times.items s.times ds
+    grid_whole = is_grid ∙ ap (λ ts. grid_with ts (map value_of ds)) s.times
+
+    factor_is : grid / made.boxed.grid ≡ factor c made.times.items s.times ds
+    factor_is = ap (λ n. n / made.boxed.grid) grid_whole ∙ ap (λ n. whole c made.times.items s.times ds / n) s.grid
+
+    pub made_factor_pos : 0 < grid / made.boxed.grid
+    made_factor_pos = subst (λ n. 0 < n) (sym factor_is) (factor_pos c made.times.items s.times ds)
+
+    pub made_whole : made.boxed.grid * (grid / made.boxed.grid) ≡ grid
+    made_whole = ap (λ n. n * (grid / made.boxed.grid)) s.grid ∙ ap (λ n. grid_of c * n) factor_is ∙ times_factor c made.times.items s.times ds ∙ sym grid_whole
+
+    module _ (judged : judge_list (map plain_timed made.times.items) (map value_of ds) ≡ None) where
+      judged_c : judge_list (times_of c) (map value_of ds) ≡ None
+      judged_c = ap (λ ts. judge_list ts (map value_of ds)) (sym s.times) ∙ judged
+
+      same_box : finer_box (grid / made.boxed.grid) (plain_box made.boxed) ≡ finer_box (factor c made.times.items s.times ds) (box_of c)
+      same_box = ap (λ n. finer_box n (plain_box made.boxed)) factor_is ∙ ap (finer_box (factor c made.times.items s.times ds)) s.box
+
+      same_counts : map (count_of grid) (map value_of ds) ≡ map (count_of (whole c made.times.items s.times ds)) (map value_of ds)
+      same_counts = ap (λ n. map (count_of n) (map value_of ds)) grid_whole
+
+      pub made_vector : (durations : List ℕ) → durations ≡ map (count_of grid) (map value_of ds) → IsVector (finer_box (grid / made.boxed.grid) (plain_box made.boxed)).steps durations
+      made_vector durations are =
+          subst (λ (b : PlainBox). IsVector b.steps durations) (sym same_box)
+          (subst (IsVector (finer_box (factor c made.times.items s.times ds) (box_of c)).steps) (sym (are ∙ same_counts)) (fitted_vector c made.times.items s.times ds s.lawful judged_c))
+
+      pub made_replayed : (text durations : List ℕ) (answer : Answer) → list_read (durations_in text) ≡ Ok (map value_of ds) → durations ≡ map (count_of grid) (map value_of ds)
+          → IsRunWith (made.boxed.grid * (grid / made.boxed.grid)) (finer_box (grid / made.boxed.grid) (plain_box made.boxed)) durations answer → IsReplayedCase text c answer
+      made_replayed text durations answer read are run =
+          replayed c made.times.items s.times ds text answer read judged_c
+          (subst (λ n. IsRunWith n (finer_box (factor c made.times.items s.times ds) (box_of c)) (map (count_of (whole c made.times.items s.times ds)) (map value_of ds)) answer) (made_whole ∙ grid_whole)
+          (subst (λ (b : PlainBox). IsRunWith (made.boxed.grid * (grid / made.boxed.grid)) b (map (count_of (whole c made.times.items s.times ds)) (map value_of ds)) answer) same_box
+          (subst (λ l. IsRunWith (made.boxed.grid * (grid / made.boxed.grid)) (finer_box (grid / made.boxed.grid) (plain_box made.boxed)) l answer) (are ∙ same_counts) run)))

@@ -1,0 +1,60 @@
+//! Answers, printed.
+
+ghost use Rattle.std.specs.Prelude.{◌≡◌, IfOk};
+ghost use Rattle.stp_report.specs.Bounds.{AreTimes};
+ghost use Rattle.stp_report.specs.Texts.{text_of};
+ghost use Rattle.stp_cli.specs.Replies.{status_of, IsReply};
+ghost use Rattle.stp_cli.specs.declared.refusal.Refusal.{Refusal as TheRefusal};
+
+use crate::refusal::{CaseFault, Refusal};
+use crate::status::Status;
+use std::alloc::Global;
+use stp_base::{Memory, Text};
+use stp_report::{Answer, print_answer};
+
+/// What is written for an answer, and how the call ends.
+#[derive(Drop)]
+pub struct Reply {
+    pub status: Status,
+    pub text: Text,
+}
+
+fn status_of(answer: &Answer<'_, '_>) -> Status
+    ensures { result ≡ status_of answer.now }
+{
+    match answer {
+        Answer::Strong { .. } => Status::Done,
+        Answer::Weak { .. } => Status::No,
+        Answer::Replay { fault: None, .. } => Status::Done,
+        Answer::Replay { fault: Some(_), .. } => Status::No,
+        Answer::Refused { .. } => Status::Refused,
+        Answer::ReadFault(_) => Status::OutsideFault,
+        Answer::Usage => Status::Usage,
+    }
+}
+
+/// An answer, printed.
+pub(crate) fn reply_with(alloc: Global, answer: &Answer<'_, '_>) -> Result<Reply, Memory>
+    requires { AreTimes answer.now }
+    ensures status { IfOk result (λ r. r.status ≡ status_of answer.now) }
+    ensures text { IfOk result (λ r. r.text ≡ text_of answer.now) }
+    ensures reply { IfOk result (λ r. IsReply (λ a. a ≡ answer.now) r.status r.text) }
+{
+    let text = print_answer(alloc, answer)?;
+    Ok(Reply {
+        status: status_of(answer),
+        text,
+    })
+}
+
+/// The reply to a refusal.
+pub(crate) fn refuse(alloc: Global, fault: CaseFault) -> Result<Reply, Memory>
+    ensures { IfOk result (λ r. (refusal : TheRefusal) × (fault ≡ CaseFault.Refused refusal) × IsReply (λ a. a ≡ Answer.Refused refusal.file refusal.code refusal.at) r.status r.text) }
+{
+    match fault {
+        CaseFault::Refused(Refusal { file, code, at }) => {
+            reply_with(alloc, &Answer::Refused { file, code, at })
+        }
+        CaseFault::Memory => Err(Memory),
+    }
+}

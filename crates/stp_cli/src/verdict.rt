@@ -1,0 +1,67 @@
+//! Verdicts on boxes.
+
+ghost use Rattle.std.specs.Prelude.{◌≡◌, ◌<◌, ◌≤◌, ◌^◌, length, count_by, IfOk};
+ghost use Rattle.stp_happen.specs.Boxes.{IsStrong, plain_box};
+ghost use Rattle.stp_happen.specs.LeastFailure.{IsLeastFailure};
+ghost use Rattle.stp_cli.specs.Replies.{IsReply};
+ghost use Rattle.stp_cli.specs.Verdict.{IsVerdict};
+
+use crate::reply::{Reply, reply_with};
+use std::alloc::Global;
+use stp_base::{Memory, StateRow};
+use stp_happen::run_at::run_at;
+use stp_happen::{BoxRun, BoxStep, first_fault};
+use stp_least::least_failure;
+use stp_report::Answer;
+
+/// How many of these steps are uncertain.
+fn count_uncertain(steps: &[BoxStep<'_>]) -> u32
+    requires { length steps.now < 2 ^ 32 }
+    ensures { result ≡ count_by (λ s. s.uncertain) steps.now }
+{
+    steps.iter().filter(|step| step.uncertain).count() as u32
+}
+
+/// The reply where a box is strong.
+fn strong(alloc: Global, boxed: &BoxRun<'_>) -> Result<Reply, Memory>
+    requires few { length boxed.now.steps ≤ 500 }
+    requires strong { IsStrong (plain_box boxed.now) }
+    ensures { IfOk result (λ r. IsReply (IsVerdict boxed.now.grid (plain_box boxed.now)) r.status r.text) }
+{
+    let steps = boxed.steps.as_slice();
+    let answer = Answer::Strong {
+        steps: steps.len() as u32,
+        uncertain: count_uncertain(steps),
+        grid: boxed.grid,
+    };
+    reply_with(alloc, &answer)
+}
+
+/// The reply where these are the least durations at which a box fails.
+fn weak(alloc: Global, boxed: &BoxRun<'_>, durations: &[u128]) -> Result<Reply, Memory>
+    requires least { IsLeastFailure (plain_box boxed.now) durations.now }
+    requires weak { IsStrong (plain_box boxed.now) → ⊥ }
+    ensures { IfOk result (λ r. IsReply (IsVerdict boxed.now.grid (plain_box boxed.now)) r.status r.text) }
+{
+    let run = run_at(alloc, boxed, durations)?;
+    let mut row = StateRow::new(alloc, run.initial.len())?;
+    let Some(fault) = first_fault(&run, &mut row) else {
+        unreachable!();
+    };
+    let answer = Answer::Weak {
+        grid: boxed.grid,
+        durations,
+        fault,
+    };
+    reply_with(alloc, &answer)
+}
+
+/// The verdict on a box: it is strong, or these are the least durations at which it fails, and why.
+pub fn verdict(alloc: Global, boxed: &BoxRun<'_>) -> Result<Reply, Memory>
+    ensures { IfOk result (λ r. IsReply (IsVerdict boxed.now.grid (plain_box boxed.now)) r.status r.text) }
+{
+    match least_failure(alloc, boxed)? {
+        None => strong(alloc, boxed),
+        Some(durations) => weak(alloc, boxed, durations.as_slice()),
+    }
+}

@@ -1,0 +1,42 @@
+//! Words that are no command.
+
+use crate::setting::{PLAIN, TASK, answers};
+use std::test::Fail;
+use stp_cli::Status;
+
+const USAGE: &[u8] =
+    b"usage: stp check DOMAIN PROBLEM PLAN\n       stp replay DOMAIN PROBLEM PLAN --durations LIST\n";
+
+#[test]
+fn command_lines(rt: HostRuntime) -> Result<(), Fail> {
+    let rows: [&[&str]; 16] = [
+        &[],
+        &["stp"],
+        &["stp", "check", "d"],
+        &["stp", "check", "d", "p"],
+        &["stp", "check", "d", "p", "l", "l"],
+        &["stp", "check", "-d", "p", "l"],
+        &["stp", "check", "d", "", "l"],
+        &["stp", "Check", "d", "p", "l"],
+        &["stp", "plan", "d", "p", "l"],
+        &["stp", "replay", "d", "p", "l"],
+        &["stp", "replay", "d", "p", "l", "--durations"],
+        &["stp", "replay", "d", "p", "l", "--durations", ""],
+        &["stp", "replay", "d", "p", "l", "--durations", "-4"],
+        &["stp", "replay", "d", "p", "l", "-durations", "4"],
+        &["stp", "replay", "--durations", "4", "d", "p", "l"],
+        &["stp", "check", "d", "p", "l", "--durations", "4"],
+    ];
+    for row in rows {
+        let plan: &[u8] = b"0: (make) [4]\n5: (see)";
+        answers(
+            &rt,
+            rt.alloc(),
+            row,
+            [PLAIN, TASK, plan],
+            USAGE,
+            Status::Usage,
+        )?;
+    }
+    Ok(())
+}

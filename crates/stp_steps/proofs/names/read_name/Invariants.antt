@@ -1,6 +1,0 @@
-use Rattle.std.proofs.Common.{◌≡◌, take, map}
-use Rattle.std.specs.Char.{to_ascii_lowercase}
-use Rattle.stp_steps.proofs.names.read_name.Given as goal
-
-abbrev pub invariant-loop-byte : goal.invariant-loop-byte
-invariant-loop-byte l = l.name ≡ map to_ascii_lowercase (take l.byte-index l.word)

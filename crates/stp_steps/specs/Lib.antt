@@ -1,5 +1,0 @@
-pub mod Names
-pub mod Numbers
-pub mod Parts
-pub mod Steps
-pub mod Views

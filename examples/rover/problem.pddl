@@ -1,0 +1,5 @@
+(define (problem two) (:domain rover)
+ (:objects r1 r2 - rover a b c - place)
+ (:init (at r1 a) (at r2 a) (still r1) (still r2) (road a b) (road a c)
+  (= (fast a b) 3) (= (slow a b) 7) (= (fast a c) 2.5) (= (slow a c) 4))
+ (:goal (and (seen b) (seen c))))
