@@ -371,6 +371,16 @@ fn worked_verdicts(rt: HostRuntime) -> Result<(), Fail> {
             None,
         ),
         (
+            "just one while it swaps",
+            plan(false, true, swap(1, 2, 4), hold(0, 6, Rule::JustOne)),
+            None,
+        ),
+        (
+            "never both while one comes",
+            plan(false, true, on_f(2, 4), hold(1, 6, Rule::NotBoth)),
+            Some(&[2]),
+        ),
+        (
             "held until it swaps",
             plan(false, true, swap(1, 2, 4), hold(0, 6, Rule::F)),
             Some(&[2]),
