@@ -1,21 +1,21 @@
 -- One more end at a choice under which a test fails.
-use Rattle.std.proofs.Common.{◌≡◌, ℕ, ◌+◌, ◌<◌, ◌==◌, Bool, true, false, ◌&&◌, ◌||◌, List, [], ◌∷◌, ◌++◌, map, drop, length, get_or, refl, ap, ap₂, sym, ◌∙◌}
-use Rattle.std.proofs.lemmas.List.{at_drop_more}
-use Rattle.std.proofs.lemmas.List.Elements.{Contains-append_right}
+use Rattle.std.proofs.Common.{◌≡◌, ℕ, ◌+◌, ◌<◌, ◌≤◌, ◌==◌, Bool, true, false, ◌&&◌, ◌||◌, List, [], ◌∷◌, ◌++◌, map, drop, length, get_or, refl, ap, ap₂, sym, ◌∙◌}
+use Rattle.std.proofs.lemmas.List.{at_drop_more, drop_all}
+use Rattle.std.proofs.lemmas.List.Elements.{Contains-append_left, Contains-append_right}
 use Rattle.std.proofs.lemmas.List.Folds.{list_any-append}
 use mathlib.Core.Path.{fun_ext}
 use Rattle.stp_cond.specs.Atoms.{has}
 use Rattle.stp_cond.specs.Events.{event_of}
-use Rattle.stp_happen.proofs.Members.{member_map}
+use Rattle.stp_happen.proofs.Members.{here, member_map}
 use Rattle.stp_strength.specs.declared.windows.Window.{Window}
 use Rattle.stp_strength.specs.Windows.{Point}
 use Rattle.stp_strength.specs.Failures.{sublists}
 use Rattle.stp_strength.specs.Splitting.{apply, passes_all}
 use Rattle.stp_strength.specs.Views.{point_of, points_of}
-use Rattle.stp_inside.specs.Choices.{applied, steps_in, IsFailingChoice, FailsWith}
+use Rattle.stp_inside.specs.Choices.{applied, steps_in, FailsWith}
 
 -- the ends from a place on
-ends_from : (ends : List Window) (place : ℕ) (end : Window) → place < length ends → end ≡ get_or ends place end → points_of (drop place ends) ≡ point_of end ∷ points_of (drop (place + 1) ends)
+pub ends_from : (ends : List Window) (place : ℕ) (end : Window) → place < length ends → end ≡ get_or ends place end → points_of (drop place ends) ≡ point_of end ∷ points_of (drop (place + 1) ends)
 ends_from ends place end l is = at_drop_more points_of ends place end l ∙ ap (λ w. point_of w ∷ points_of (drop (place + 1) ends)) (sym is)
 
 last_or_first : (steps rest : List ℕ) (m n : ℕ) → has steps n ≡ has rest n → has (steps ++ m ∷ []) n ≡ has (m ∷ rest) n
@@ -49,3 +49,21 @@ pub either_way : (over : (ℕ → Bool) → Bool) (ends : List Window) (place : 
 either_way over ends place end state next l is same one other =
     ap (λ ps. passes_all over ps state) (ends_from ends place end l is)
     ∙ ap₂ (λ b c. b && c) one (ap (passes_all over (points_of (drop (place + 1) ends))) (sym (fun_ext same)) ∙ other)
+
+-- no end is left
+pub none_left : (over : (ℕ → Bool) → Bool) (ends : List Window) (place : ℕ) (state : ℕ → Bool) (steps : List ℕ) → length ends ≤ place → steps ≡ [] → over state ≡ false → FailsWith over (points_of (drop place ends)) state steps
+none_left over ends place state steps l none fails = rw (none, drop_all place ends l) ([], record { chosen = here [] []; fails = fails; told = λ n. refl })
+
+-- an end that does not come
+pub stayed_first : (over : (ℕ → Bool) → Bool) (ends : List Window) (place : ℕ) (end : Window) (state : ℕ → Bool) (steps : List ℕ) → place < length ends → end ≡ get_or ends place end →
+    FailsWith over (points_of (drop (place + 1) ends)) state steps → FailsWith over (points_of (drop place ends)) state steps
+stayed_first over ends place end state steps l is found =
+    let rest = points_of (drop (place + 1) ends) in
+    rw (ends_from ends place end l is) (
+      found.0,
+      record {
+        chosen = Contains-append_left (sublists rest) (map (λ l. point_of end ∷ l) (sublists rest)) found.0 found.1.chosen;
+        fails = found.1.fails;
+        told = found.1.told;
+      },
+    )

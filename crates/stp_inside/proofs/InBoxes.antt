@@ -1,5 +1,5 @@
 -- What has to hold inside the steps of a box in an arena.
-use Rattle.std.proofs.Common.{◌≡◌, ℕ, Bool, List, ap₂, sym, subst}
+use Rattle.std.proofs.Common.{◌≡◌, Bool, List, ap₂, sym, subst}
 use Rattle.stp_cond.specs.declared.cond.Cond.TheVariants.{True}
 use Rattle.stp_cond.specs.Truth.{meaning_of}
 use Rattle.stp_happen.specs.declared.boxes.BoxRun.{BoxRun}
@@ -9,7 +9,6 @@ use Rattle.stp_strength.specs.declared.windows.NumberedStep.{NumberedStep}
 use Rattle.stp_strength.specs.Windows.{Point, OpenSpan, WindowBox, IsProper}
 use Rattle.stp_strength.specs.Failures.{NotKept}
 use Rattle.stp_strength.specs.Steps.{points_from, open_spans_from}
-use Rattle.stp_strength.specs.Boxed.{windows_in}
 use Rattle.stp_strength.proofs.WellMade.{boxes_have_proper_windows, box_gaps_fail}
 use Rattle.stp_inside.specs.Late.{box_inside, is_on_time, IsKept, IsBroken}
 use Rattle.stp_inside.specs.InBoxes.{AreOfBox, TheseAreProper, KeptInBoxes, BrokenInBoxes, LateStepsFail}

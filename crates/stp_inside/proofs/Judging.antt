@@ -1,18 +1,17 @@
 -- A step at a moment, judged by the ends that touch what has to hold inside it.
-use Rattle.std.proofs.Common.{◌≡◌, ℕ, ◌==◌, ◌<◌, ◌≤◌, Bool, true, false, not, ◌&&◌, ◌||◌, cond, List, [], ◌∷◌, map, filter, All, Contains, Option, None, Some, MatchOption, ◌⊎◌, inl, inr, refl, ap, ap₂, sym, ◌∙◌, subst, arith, true≢false, eqb-true, eq-eqb}
-use Rattle.std.specs.List.{list_any}
+use Rattle.std.proofs.Common.{◌≡◌, ℕ, ◌==◌, ◌<◌, ◌≤◌, Bool, true, false, not, ◌&&◌, ◌||◌, cond, List, [], ◌∷◌, map, filter, Contains, Option, None, Some, MatchOption, ◌⊎◌, inl, inr, refl, ap, ap₂, sym, ◌∙◌, subst, arith, true≢false, eqb-true, eq-eqb}
 use Rattle.std.proofs.lemmas.Bool.{cases_Bool}
 use Rattle.std.proofs.lemmas.Bool.Decides.{nat_tests}
 use Rattle.stp_base.specs.declared.ids.StepId.{StepId}
 use Rattle.stp_cond.specs.Atoms.{has, have_common}
 use Rattle.stp_cond.specs.Truth.{reads_only, meaning_of, state_of_row}
 use Rattle.stp_cond.proofs.Reading.{truth_reads_its_atoms}
-use Rattle.stp_happen.proofs.Members.{here, there, member_cases, member_map, mapped_member, all_of, each_pair, same_tests, and_left, and_right, and_both, passing_member, any_passes, kept_member, member_of_kept}
+use Rattle.stp_happen.proofs.Members.{there, member_cases, member_map, mapped_member, all_of, each_pair, same_tests, and_left, and_right, and_both, passing_member, any_passes, kept_member, member_of_kept}
 use Rattle.stp_strength.specs.declared.windows.Window.{Window}
 use Rattle.stp_strength.specs.declared.windows.NumberedStep.{NumberedStep}
-use Rattle.stp_strength.specs.Windows.{Point, OpenSpan, WindowBox, IsProper, IsOwn, ArePartedIfOne}
+use Rattle.stp_strength.specs.Windows.{Point, WindowBox, IsProper, IsOwn, ArePartedIfOne}
 use Rattle.stp_strength.specs.Facts.{state_at, IsKeptAt}
-use Rattle.stp_strength.specs.Failures.{is_unsettled, sublists, all_calm}
+use Rattle.stp_strength.specs.Failures.{is_unsettled}
 use Rattle.stp_strength.specs.Parts.{sets}
 use Rattle.stp_strength.specs.Splitting.{apply, passes_all}
 use Rattle.stp_strength.specs.Views.{point_of, points_of, span_of}

@@ -1,4 +1,5 @@
 pub mod Choosing
+pub mod Unturned
 pub mod Carried
 pub mod Coming
 pub mod Judging

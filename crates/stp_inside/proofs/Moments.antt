@@ -1,20 +1,20 @@
 -- Steps one after another, and moments one after another.
-use Rattle.std.proofs.Common.{◌≡◌, ℕ, suc, ◌+◌, ◌<◌, ◌≤◌, nat_lt, Bool, true, ◌&&◌, List, [], ◌∷◌, map, take, drop, length, filter, get_or, All, Contains, IsPermutation, Option, None, Some, MatchOption, ◌⊎◌, inl, inr, refl, ap, sym, ◌∙◌, subst, arith, zero, add-one}
+use Rattle.std.proofs.Common.{◌≡◌, ℕ, suc, ◌+◌, ◌<◌, ◌≤◌, nat_lt, Bool, true, List, [], ◌∷◌, map, take, drop, length, filter, get_or, All, Contains, IsPermutation, Option, None, Some, MatchOption, inl, inr, refl, ap, sym, ◌∙◌, subst, arith, zero, add-one}
 use Rattle.std.specs.List.{list_all}
 use Rattle.std.specs.List.Sorted.{IsNonDecreasingBy}
 use Rattle.std.proofs.lemmas.Bool.{cases_lt, ltb-true, and_parts}
 use Rattle.std.proofs.lemmas.List.{take_all}
-use Rattle.std.proofs.lemmas.List.Elements.{All-map, All-more, All-filter}
+use Rattle.std.proofs.lemmas.List.Elements.{All-map, All-more}
 use Rattle.std.proofs.lemmas.List.Sorted.{All-permutation}
 use Rattle.stp_cond.specs.Atoms.{set_of}
 use Rattle.stp_cond.specs.Events.{IsEventInRange}
 use Rattle.stp_cond.specs.Truth.{is_below, state_of_row}
 use Rattle.stp_cond.proofs.Rising.{rises, set_rises, has_set, has_from_Contains, Contains_from_has}
-use Rattle.stp_happen.proofs.Members.{here, there, member_map, member_cases, each_of, all_of, all_pairs, each_passes, kept_alike}
+use Rattle.stp_happen.proofs.Members.{here, member_map, each_of, all_of, all_pairs, each_passes, kept_alike}
 use Rattle.stp_strength.specs.declared.windows.Window.{Window}
 use Rattle.stp_strength.specs.declared.windows.NumberedStep.{NumberedStep}
-use Rattle.stp_strength.specs.Windows.{Point, WindowBox, IsProper}
-use Rattle.stp_strength.specs.Facts.{certain, IsKeptAt, lows}
+use Rattle.stp_strength.specs.Windows.{WindowBox, IsProper}
+use Rattle.stp_strength.specs.Facts.{IsKeptAt, lows}
 use Rattle.stp_strength.specs.Failures.{is_unsettled, all_calm}
 use Rattle.stp_strength.specs.Views.{point_of, points_of, span_of, spans_of}
 use Rattle.stp_strength.proofs.Checked.{lows_of}

@@ -1,6 +1,7 @@
 -- Choices of ends that come at a moment, and what they make of a state.
-use Rattle.std.specs.Prelude.{◌≡◌, ℕ, Bool, false, not, ◌||◌, List, [], ◌∷◌, map, filter, Contains}
-use Rattle.stp_cond.specs.Atoms.{has, have_common}
+use Rattle.std.specs.Prelude.{◌≡◌, ℕ, Bool, true, false, not, ◌&&◌, ◌||◌, if◌then◌else◌, List, [], ◌∷◌, map, filter, Contains}
+use Rattle.std.specs.List.{list_any}
+use Rattle.stp_cond.specs.Atoms.{PlainEvent, has, have_common}
 use Rattle.stp_strength.specs.Windows.{Point}
 use Rattle.stp_strength.specs.Failures.{sublists}
 use Rattle.stp_strength.specs.Splitting.{apply}
@@ -8,6 +9,14 @@ use Rattle.stp_strength.specs.Splitting.{apply}
 -- whether an event writes one of these atoms
 abbrev pub touches : List ℕ → Point → Bool
 touches atoms p = have_common p.event.adds atoms || have_common p.event.dels atoms
+
+-- whether an atom does not have a value
+abbrev pub is_turned : Bool → (ℕ → Bool) → ℕ → Bool
+is_turned value state a = if value then not (state a) else state a
+
+-- whether an event would turn one of these atoms
+abbrev pub turns : List ℕ → PlainEvent → (ℕ → Bool) → Bool
+turns atoms e state = list_any (λ a. is_turned true state a && has atoms a) e.adds || list_any (λ a. is_turned false state a && has atoms a) e.dels
 
 -- what events make of a state, one after another
 abbrev pub applied : List Point → (ℕ → Bool) → ℕ → Bool

@@ -61,7 +61,7 @@ fn late_inside(
         (λ late. IsLateWithout (meaning_of held.now.step.step.over.now) held.now.step.number ends (state_of_row row.now) (numbers_of late))) }
 {
     let ends = touching(alloc, unsettled, held.step.number, held.atoms.as_slice())?;
-    match failing_choice(alloc, held.step.step.over, &ends, 0, row)? {
+    match failing_choice(alloc, held, &ends, 0, row)? {
         Some(ended) => {
             let late = late_steps(alloc, held.step.number, &ends, &ended)?;
             Ok(Some(late))

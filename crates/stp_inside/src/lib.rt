@@ -9,6 +9,7 @@ mod late;
 pub mod laws;
 mod rows;
 mod touching;
+mod turning;
 
 pub use finding::first_broken;
 

@@ -12,7 +12,7 @@ use stp_base::{AtomId, Memory};
 use stp_strength::Window;
 
 /// Whether an atom is among ascending ones.
-fn is_among(atoms: &[AtomId], atom: AtomId) -> bool
+pub(crate) fn is_among(atoms: &[AtomId], atom: AtomId) -> bool
     requires { set_of (atoms_of atoms.now) ≡ atoms_of atoms.now }
     ensures { result ≡ has (atoms_of atoms.now) atom.0 }
 {
@@ -68,6 +68,9 @@ pub(crate) fn touching<'a>(
     requires { set_of (atoms_of atoms.now) ≡ atoms_of atoms.now }
     ensures { IfOk result (λ r. r.items ≡ filter (λ w. not (w.step == number) && touches_lem (atoms_of atoms.now) (point_of w)) windows.now) }
 {
+    if atoms.is_empty() {
+        return Ok(Vec::new(alloc));
+    }
     let found = windows
         .iter()
         .filter(|window| window.step != number && touches(window, atoms))

@@ -1,4 +1,4 @@
-use Rattle.std.proofs.Common.{◌≡◌, ◌<◌, ◌≤◌, ◌∙◌, arith}
+use Rattle.std.proofs.Common.{◌∙◌, arith}
 use Rattle.stp_cond.specs.Truth.{state_of_row}
 use Rattle.stp_inside.proofs.Carried.{ended_more, carried_more}
 use Rattle.stp_inside.proofs.carrying.carry.Goals as goal

@@ -1,7 +1,6 @@
-use Rattle.std.proofs.Common.{◌≡◌, ℕ, ◌<◌, ◌≤◌, List, length, map, take, get_or, true, All, arith, rules, ap, sym, ◌∙◌, subst}
+use Rattle.std.proofs.Common.{◌≡◌, ℕ, ◌≤◌, length, map, take, get_or, true, All, arith, rules, ap, sym, ◌∙◌, subst}
 use Rattle.stp_cond.specs.Atoms.{set_of}
 use Rattle.stp_cond.specs.Truth.{is_below, state_of_row}
-use Rattle.stp_strength.specs.declared.windows.Window.{Window}
 use Rattle.stp_strength.specs.declared.windows.NumberedStep.{NumberedStep}
 use Rattle.stp_strength.specs.Views.{points_of}
 use Rattle.stp_inside.specs.Choices.{applied}

@@ -1,4 +1,4 @@
-use Rattle.std.proofs.Common.{◌≡◌, ◌<◌, length, map, All, arith, rules, refl, sym, ◌∙◌, subst}
+use Rattle.std.proofs.Common.{length, All, arith, rules, refl, sym, ◌∙◌, subst}
 use Rattle.std.proofs.lemmas.List.Elements.{All-filter, All-more}
 use Rattle.stp_cond.specs.Events.{IsEventInRange}
 use Rattle.stp_strength.specs.declared.windows.Window.{Window}

@@ -1,7 +1,7 @@
 -- What has to hold inside the steps so far holds.
 use Rattle.std.proofs.Common.{Bool, List, map, take, All}
 use Rattle.stp_strength.specs.Facts.{IsKeptAt}
-use Rattle.stp_strength.specs.Views.{points_of, span_of}
+use Rattle.stp_strength.specs.Views.{span_of}
 use Rattle.stp_inside.specs.Late.{box_inside, IsRowAt}
 use Rattle.stp_inside.proofs.finding.late_among.Given as goal
 
