@@ -56,11 +56,12 @@ struct Sketch {
     over: Rule,
 }
 
-/// Which of f and g are true at first, and the steps.
+/// Which of f and g are true at first, what has to hold at the end, and the steps.
 #[derive(Clone, Copy)]
 struct Case {
     f: bool,
     g: bool,
+    goal: Rule,
     steps: [Sketch; 4],
 }
 
@@ -208,7 +209,7 @@ fn steps<'a>(
 
 fn boxed<'a>(alloc: Global, arena: &'a Bump, case: Case) -> Result<BoxRun<'a>, Memory> {
     let steps = steps(alloc, arena, case.steps)?;
-    let goal = rule_of(arena, Rule::Always)?;
+    let goal = rule_of(arena, case.goal)?;
     let mut initial = StateRow::new(alloc, 2)?;
     initial.set(F, case.f);
     initial.set(G, case.g);
@@ -326,6 +327,7 @@ fn plan(f: bool, g: bool, first: Sketch, second: Sketch) -> Case {
     Case {
         f,
         g,
+        goal: Rule::Always,
         steps: [first, second, none(), none()],
     }
 }
@@ -369,6 +371,16 @@ fn worked_verdicts(rt: HostRuntime) -> Result<(), Fail> {
             None,
         ),
         (
+            "just one while it swaps",
+            plan(false, true, swap(1, 2, 4), hold(0, 6, Rule::JustOne)),
+            None,
+        ),
+        (
+            "never both while one comes",
+            plan(false, true, on_f(2, 4), hold(1, 6, Rule::NotBoth)),
+            Some(&[2]),
+        ),
+        (
             "held until it swaps",
             plan(false, true, swap(1, 2, 4), hold(0, 6, Rule::F)),
             Some(&[2]),
@@ -394,7 +406,8 @@ fn bounds_alone_execute(rt: HostRuntime) -> Result<(), Fail> {
     Ok(())
 }
 
-/// A step that adds f, one that varies, one that deletes g, and one that holds a rule.
+/// A step that adds f, one that varies, one that deletes g, and one that holds a rule. At the end just one of f
+/// and g has to be true, or both may be if f is true at first.
 fn crowd(f: bool, at: u8, effect: Effect, over: Rule) -> Case {
     let held = Sketch {
         over,
@@ -403,6 +416,7 @@ fn crowd(f: bool, at: u8, effect: Effect, over: Rule) -> Case {
     Case {
         f,
         g: true,
+        goal: if f { Rule::Either } else { Rule::JustOne },
         steps: [
             durative(0, 2, 4, 1, Effect::AddF),
             durative(at, 1, 3, 2, effect),
