@@ -32,10 +32,6 @@ failed fault = Err fault
 pub refused_alike : {A B : Type 0} (fault other : CaseFault) → failed {A = A} fault ≡ failed other → failed {A = B} fault ≡ failed other
 refused_alike {B = B} fault other e = let same : fault ≡ other = cc in ap (failed {A = B}) same
 
--- what a fault tells of its refusal
-pub same_refusal : (one other : Refusal) → faults.Refused one ≡ faults.Refused other → one ≡ other
-same_refusal one other e = cc
-
 -- a fault of steps, made into one of the case that is a refusal, is no want of memory
 pub exec_told : (fault : ExecFault) (made : CaseFault) (r : Refusal) → (fault ≡ execs.Memory → made ≡ faults.Memory) → (fault ≢ execs.Memory → made ≡ faults.Refused (exec_refusal fault)) → failed {A = ℕ} made ≡ Err (faults.Refused r) → (fault ≢ execs.Memory) × (exec_refusal fault ≡ r)
 exec_told (execs.Step step code) made r memory refused was =
@@ -69,9 +65,16 @@ module _ (domain problem : List ℕ) where
       unfolding task_of
       refused_problem r p = rw (is_tree, is_world, p) refl
 
-      pub by_trees : (u : Tree) → or_refusal (text_refusal files.Problem) (tree_of problem) ≡ Ok u → task_of domain problem ≡ or_refusal (read_refusal files.Problem) (problem_or_refusal world u)
-      unfolding task_of
-      by_trees u p = rw (is_tree, is_world, p) refl
+      module _ (u : Tree) (is_problem : or_refusal (text_refusal files.Problem) (tree_of problem) ≡ Ok u) where
+        by_trees : task_of domain problem ≡ or_refusal (read_refusal files.Problem) (problem_or_refusal world u)
+        unfolding task_of
+        by_trees = rw (is_tree, is_world, is_problem) refl
+
+        pub a_task : (task : PlainProblem) → or_refusal (read_refusal files.Problem) (problem_or_refusal world u) ≡ Ok task → task_of domain problem ≡ Ok task
+        a_task task k = by_trees ∙ k
+
+        pub refused_task : (r : Refusal) → or_refusal (read_refusal files.Problem) (problem_or_refusal world u) ≡ Err r → task_of domain problem ≡ Err r
+        refused_task r k = by_trees ∙ k
 
 -- ---- the steps
 
@@ -121,8 +124,9 @@ module _ (command : Command) (domain problem plan : List ℕ) (answer : Answer) 
   pub judged_with : (task : PlainProblem) → task_of domain problem ≡ Ok task → IsJudgedSteps command task plan answer → IsJudged command domain problem plan answer
   judged_with task e h = rw (by_task task e) (with_steps (IsJudgedCase command) task answer (steps_of task plan) h)
 
-  pub steps_refused : (task : PlainProblem) (refusal : Refusal) → steps_of task plan ≡ Err refusal → answer ≡ answers.Refused refusal.file refusal.code refusal.at → IsJudgedSteps command task plan answer
-  steps_refused task refusal e is = refused_or (λ s. IsJudgedCase command (case_with task s)) (steps_of task plan) refusal answer e is
+module _ (command : Command) (plan : List ℕ) (answer : Answer) (task : PlainProblem) where
+  pub steps_refused : (refusal : Refusal) → steps_of task plan ≡ Err refusal → answer ≡ answers.Refused refusal.file refusal.code refusal.at → IsJudgedSteps command task plan answer
+  steps_refused refusal e is = refused_or (λ s. IsJudgedCase command (case_with task s)) (steps_of task plan) refusal answer e is
 
-  pub steps_judged : (task : PlainProblem) (steps : List PlainPlaced) → steps_of task plan ≡ Ok steps → IsJudgedCase command (case_with task steps) answer → IsJudgedSteps command task plan answer
-  steps_judged task steps e is = or_right (λ s. IsJudgedCase command (case_with task s)) (steps_of task plan) steps answer e is
+  pub steps_judged : (steps : List PlainPlaced) → steps_of task plan ≡ Ok steps → IsJudgedCase command (case_with task steps) answer → IsJudgedSteps command task plan answer
+  steps_judged steps e is = or_right (λ s. IsJudgedCase command (case_with task s)) (steps_of task plan) steps answer e is

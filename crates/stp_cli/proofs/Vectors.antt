@@ -42,7 +42,7 @@ module _ (k g : ℕ) (pk : 0 < k) (pg : 0 < g) where
   finer_pos = mul-pos pk pg
 
   lies_finer : (f : Fraction) → Lies g f → Lies fine f
-  lies_finer f l = divides_from f.bottom fine (dvd-mul_left_of_dvd (divides_to f.bottom g l) k)
+  lies_finer f l = divides_from f.bottom fine (dvd-mul_left_of_dvd f.bottom (divides_to f.bottom g l) k)
 
   both_lie : (f h : Fraction) → Lies fine f → Lies fine h → HeldLies fine (Open f h)
   both_lie f h lf lh = and_true (divides f.bottom fine) (divides h.bottom fine && true) lf (and_true (divides h.bottom fine) true lh refl)
@@ -95,9 +95,12 @@ module _ (k g : ℕ) (pk : 0 < k) (pg : 0 < g) where
           rest (n + 1) ds (All-tail (IsOn g) (record { start = start; held = Open low high }) (times_of steps) on) (All-tail (Lies fine) d ds lie) (omega (arith, even)) split.1,
         )
 
+    no_more : Claim []
+    no_more n [] on lie even inside = refl
+    no_more n (d ∷ ds) on lie even inside = absurd (omega (arith, even))
+
     pub fitting : (steps : List PlainPlaced) → Claim steps
-    fitting [] n [] on lie even inside = refl
-    fitting [] n (d ∷ ds) on lie even inside = absurd (omega (arith, even))
+    fitting [] = no_more
     fitting (s ∷ steps) = one_more s.chosen s.timed.start s.timed.held steps (fitting steps)
 
 -- what it means that a list is judged to fit

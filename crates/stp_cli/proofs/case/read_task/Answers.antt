@@ -1,8 +1,7 @@
-use Rattle.std.proofs.Common.{◌∙◌}
 use Rattle.std.proofs.lemmas.Result.{IfOk-weaker}
 use Rattle.stp_text.specs.Tree.{view}
-use Rattle.stp_schema.specs.Views.{domain_of}
-use Rattle.stp_cli.proofs.Casing.{refused_domain, refused_world, refused_problem, by_trees, refused_alike}
+use Rattle.stp_schema.specs.Views.{domain_of, problem_of}
+use Rattle.stp_cli.proofs.Casing.{refused_domain, refused_world, refused_problem, a_task, refused_task, refused_alike}
 use Rattle.stp_cli.specs.declared.refusal.CaseFault.TheVariants.{Refused}
 use Rattle.stp_cli.proofs.case.read_task.Goals as goal
 
@@ -20,10 +19,9 @@ returns-in-Err-read_tree-clause-refused c = λ r was.
 pub returns-clause-ok : goal.returns-clause-ok
 returns-clause-ok c =
     IfOk-weaker c.whole_problem.result _ _
-    (λ p e. by_trees c.args.domain.now c.args.problem.now (view c.in-Ok.tree.now) c.in-Ok.ensures.ok (domain_of c.in-Ok-whole_domain.world) c.in-Ok-whole_domain.ensures.ok (view c.in-Ok-read_tree.tree.now) c.in-Ok-read_tree.ensures.ok ∙ e)
+    (λ p e. a_task c.args.domain.now c.args.problem.now (view c.in-Ok.tree.now) c.in-Ok.ensures.ok (domain_of c.in-Ok-whole_domain.world) c.in-Ok-whole_domain.ensures.ok (view c.in-Ok-read_tree.tree.now) c.in-Ok-read_tree.ensures.ok (problem_of p) e)
     c.whole_problem.ensures.ok
 
 pub returns-clause-refused : goal.returns-clause-refused
 returns-clause-refused c = λ r was.
-    by_trees c.args.domain.now c.args.problem.now (view c.in-Ok.tree.now) c.in-Ok.ensures.ok (domain_of c.in-Ok-whole_domain.world) c.in-Ok-whole_domain.ensures.ok (view c.in-Ok-read_tree.tree.now) c.in-Ok-read_tree.ensures.ok
-    ∙ c.whole_problem.ensures.refused r was
+    refused_task c.args.domain.now c.args.problem.now (view c.in-Ok.tree.now) c.in-Ok.ensures.ok (domain_of c.in-Ok-whole_domain.world) c.in-Ok-whole_domain.ensures.ok (view c.in-Ok-read_tree.tree.now) c.in-Ok-read_tree.ensures.ok r (c.whole_problem.ensures.refused r was)

@@ -1,4 +1,4 @@
-use Rattle.std.proofs.Common.{sym, subst, ◌∙◌}
+use Rattle.std.proofs.Common.{◌*◌, subst, ◌∙◌}
 use Rattle.std.proofs.lemmas.Result.{IfOk-weaker}
 use Rattle.stp_happen.specs.Boxes.{plain_box, finer_box}
 use Rattle.stp_cli.specs.Replay.{IsRunWith}
