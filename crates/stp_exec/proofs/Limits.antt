@@ -8,7 +8,6 @@ use Rattle.stp_base.specs.declared.ids.StepId.{StepId}
 use Rattle.stp_frac.specs.Fractions.{up_to}
 use Rattle.stp_timing.specs.declared.timed.TimedStep.{TimedStep}
 use Rattle.stp_timing.specs.Timed.{PlainTimed, plain_timed, is_lawful_timed, base_grid, lies_on, is_too_late, late_from, first_too_late}
-use Rattle.stp_exec.specs.declared.fault.ExecFault.{ExecFault}
 use Rattle.stp_exec.specs.declared.fault.ExecFault.TheVariants.{GridTooFine, TimeTooLarge}
 use Rattle.stp_exec.specs.declared.placed.Placed.{Placed}
 use Rattle.stp_exec.specs.Times.{IsTimely}

@@ -1,5 +1,5 @@
 -- The steps of a plan in their places, one after the other.
-use Rattle.std.proofs.Common.{◌≡◌, ◌≢◌, ◌⊎◌, inl, inr, ⊎_elim, ℕ, ◌+◌, ◌<◌, ◌≤◌, false, List, [], ◌∷◌, ◌++◌, length, map, drop, get_or, Option, Some, None, Result, Ok, Err, IfOk, refl, sym, ap, ap₂, ◌∙◌, subst, append_assoc, arith, true, ◌&&◌, ◌==◌, bytes_eq, Bool, eq-eqb}
+use Rattle.std.proofs.Common.{◌≡◌, ◌≢◌, ◌⊎◌, inl, inr, ⊎_elim, ℕ, ◌+◌, ◌<◌, ◌≤◌, false, List, [], ◌∷◌, ◌++◌, length, map, drop, get_or, Option, Some, None, Result, Ok, Err, IfOk, refl, sym, ap, ap₂, ◌∙◌, subst, append_assoc, arith, true, ◌&&◌, ◌==◌, bytes_eq, eq-eqb}
 use Rattle.std.specs.List.{All}
 use Rattle.std.proofs.lemmas.List.{append-nil, drop_more, drop_all, map_push, length-map}
 use Rattle.std.proofs.Math.ListN.{get_or-map}
@@ -23,7 +23,7 @@ use Rattle.stp_exec.specs.Faults.{◌>>=◌, code_of, coded, step_number, at_ste
 use Rattle.stp_exec.specs.Placed.{PlainPlaced, placed_at, placed_step, placed_from}
 use Rattle.stp_exec.specs.Views.{plain_placed}
 use Rattle.stp_exec.specs.Plans.{HasLowestTerms, IsStepOf, IsPlan}
-use Rattle.stp_exec.specs.Boxed.{beyond_limits, placed_or_fault}
+use Rattle.stp_exec.specs.Boxed.{beyond_limits}
 use Rattle.stp_exec.specs.Laws.{PlacedStepsArePlans, SameWordsAreOneAction}
 use Rattle.stp_exec.proofs.Fitting.{AnswerFits, held_fits, times_are_lowest}
 
