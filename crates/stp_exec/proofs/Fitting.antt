@@ -1,5 +1,5 @@
 -- A time that a bracket gives is one that the action may last, and the program's times have lowest terms.
-use Rattle.std.proofs.Common.{◌≡◌, Bool, true, false, ◌&&◌, if◌then◌else◌, pos, ◌*ℤ◌, List, [], ◌∷◌, Result, Ok, Err, IfOk, Less, Equal, Greater, Ordering, refl, sym, ap, ◌∙◌, arith}
+use Rattle.std.proofs.Common.{◌≡◌, Bool, true, false, ◌&&◌, if◌then◌else◌, pos, ◌*ℤ◌, [], ◌∷◌, Result, Ok, Err, IfOk, Less, Equal, Greater, Ordering, refl, sym, ap, arith}
 use Rattle.std.specs.List.{All}
 use Rattle.std.specs.Ordering.{is_eq, is_le}
 use Rattle.std.specs.Cmp.{int_cmp_is}

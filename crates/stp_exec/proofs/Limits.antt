@@ -4,12 +4,10 @@ use Rattle.std.specs.Prelude.{nat_le, option_map}
 use Rattle.std.specs.List.{All}
 use Rattle.std.proofs.lemmas.Bool.Decides.{nat_tests}
 use Rattle.std.proofs.lemmas.List.Elements.{All-nil, All-cons, All-head, All-tail, All-map}
-use Rattle.stp_base.specs.declared.ids.StepId.{StepId}
 use Rattle.stp_frac.specs.Fractions.{up_to}
 use Rattle.stp_timing.specs.declared.timed.TimedStep.{TimedStep}
 use Rattle.stp_timing.specs.Timed.{PlainTimed, plain_timed, is_lawful_timed, base_grid, lies_on, is_too_late, late_from, first_too_late}
-use Rattle.stp_exec.specs.declared.fault.ExecFault.{ExecFault}
-use Rattle.stp_exec.specs.declared.fault.ExecFault.TheVariants.{GridTooFine, TimeTooLarge}
+use Rattle.stp_exec.specs.declared.fault.ExecFault.TheVariants.{GridTooFine}
 use Rattle.stp_exec.specs.declared.placed.Placed.{Placed}
 use Rattle.stp_exec.specs.Times.{IsTimely}
 use Rattle.stp_exec.specs.Placed.{times_of}
@@ -42,9 +40,6 @@ is_coarse g n e h = grind (arith, nat_tests)
 
 coarse_beyond : (times : List PlainTimed) (g : ℕ) → g ≡ base_grid times → g ≤ 999999999 → beyond times ≡ option_map too_large (first_too_late times)
 coarse_beyond times g e h = ap (λ b. if b then option_map too_large (first_too_late times) else Some GridTooFine) (is_coarse g (base_grid times) e h)
-
-pub late_beyond : (times : List PlainTimed) (g : ℕ) (step : StepId) → g ≡ base_grid times → g ≤ 999999999 → Some step.0 ≡ first_too_late times → beyond times ≡ Some (TimeTooLarge step)
-late_beyond times g step e h f = coarse_beyond times g e h ∙ ap (option_map too_large) (sym f)
 
 pub none_beyond : (times : List PlainTimed) (g : ℕ) → g ≡ base_grid times → g ≤ 999999999 → None ≡ first_too_late times → beyond times ≡ None
 none_beyond times g e h f = coarse_beyond times g e h ∙ ap (option_map too_large) (sym f)

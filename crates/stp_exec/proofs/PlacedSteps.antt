@@ -1,10 +1,11 @@
 -- The steps of a plan in their places, one after the other.
-use Rattle.std.proofs.Common.{◌≡◌, ◌≢◌, ◌⊎◌, inl, inr, ⊎_elim, ℕ, ◌+◌, ◌<◌, ◌≤◌, false, List, [], ◌∷◌, ◌++◌, length, map, drop, get_or, Option, Some, None, Result, Ok, Err, IfOk, refl, sym, ap, ◌∙◌, subst, append_assoc, arith}
+use Rattle.std.proofs.Common.{◌≡◌, ◌≢◌, ◌⊎◌, inl, inr, ⊎_elim, ℕ, ◌+◌, ◌<◌, ◌≤◌, false, List, [], ◌∷◌, ◌++◌, length, map, drop, get_or, Option, Some, None, Result, Ok, Err, IfOk, refl, sym, ap, ap₂, ◌∙◌, subst, append_assoc, arith, true, ◌&&◌, ◌==◌, bytes_eq, eq-eqb}
 use Rattle.std.specs.List.{All}
 use Rattle.std.proofs.lemmas.List.{append-nil, drop_more, drop_all, map_push, length-map}
 use Rattle.std.proofs.Math.ListN.{get_or-map}
 use Rattle.std.proofs.lemmas.List.Elements.{All-nil, All-cons, All-head, All-tail, All-map}
 use Rattle.stp_frac.specs.Fractions.{is_below_zero}
+use Rattle.stp_frac.proofs.Divisors.{both_true}
 use Rattle.stp_offence.specs.declared.code.Code.{Code}
 use Rattle.stp_schema.specs.Views.{PlainProblem}
 use Rattle.stp_ground.specs.declared.fault.InstanceFault.{InstanceFault}
@@ -22,8 +23,8 @@ use Rattle.stp_exec.specs.Faults.{◌>>=◌, code_of, coded, step_number, at_ste
 use Rattle.stp_exec.specs.Placed.{PlainPlaced, placed_at, placed_step, placed_from}
 use Rattle.stp_exec.specs.Views.{plain_placed}
 use Rattle.stp_exec.specs.Plans.{HasLowestTerms, IsStepOf, IsPlan}
-use Rattle.stp_exec.specs.Boxed.{beyond_limits, placed_or_fault}
-use Rattle.stp_exec.specs.Laws.{PlacedStepsArePlans}
+use Rattle.stp_exec.specs.Boxed.{beyond_limits}
+use Rattle.stp_exec.specs.Laws.{PlacedStepsArePlans, SameWordsAreOneAction}
 use Rattle.stp_exec.proofs.Fitting.{AnswerFits, held_fits, times_are_lowest}
 
 -- ---- one step
@@ -164,3 +165,37 @@ start_above steps i step lawful h is =
     let s : PlainStep = get_or (map plain_step steps) i (plain_step step) in
     subst (λ (s : PlainStep). IsAbove s.at) (get_or-map plain_step steps i step ∙ ap plain_step is)
     (All-head IsAbove s.at (bracket_numbers s.bracket) (lawful.steps i (plain_step step) within).numbers)
+
+-- ---- actions
+
+abbrev IsChoiceOf : PlainProblem → PlainStep → PlainPlaced → Type 0
+IsChoiceOf p s x = chosen_by p s.name s.args ≡ Ok x.chosen
+
+module _ (p : PlainProblem) (s : PlainStep) where
+  chosen_held : (c : PlainChosen) → chosen_by p s.name s.args ≡ Ok c → (r : Result PlainHeld Code) → IfOk (r >>= (λ (held : PlainHeld). Ok (placed_at c s.at held))) (IsChoiceOf p s)
+  chosen_held c e (Ok held) = e
+  chosen_held c e (Err code) = tt
+
+  chosen_is : (r : Result PlainChosen InstanceFault) → chosen_by p s.name s.args ≡ r → IfOk (coded r >>= then_held p 0 s) (IsChoiceOf p s)
+  chosen_is (Ok c) e = chosen_held c e (held_of c.duration s.bracket)
+  chosen_is (Err fault) e = tt
+
+  choice_is : (x : PlainPlaced) → placed_step p s ≡ Ok x → IsChoiceOf p s x
+  choice_is x e = subst (λ (r : Result PlainPlaced Code). IfOk r (IsChoiceOf p s)) e (chosen_is (chosen_by p s.name s.args) refl)
+
+same_list : (xs : List ℕ) → bytes_eq xs xs ≡ true
+same_list [] = refl
+same_list (x ∷ xs) = both_true (x == x) (bytes_eq xs xs) (eq-eqb x x refl) (same_list xs)
+
+same_choice : (c d : PlainChosen) → c ≡ d → ((c.schema == d.schema) && bytes_eq c.args d.args) ≡ true
+same_choice c d e =
+    ap (λ (x : PlainChosen). (c.schema == x.schema) && bytes_eq c.args x.args) (sym e)
+    ∙ both_true (c.schema == c.schema) (bytes_eq c.args c.args) (eq-eqb c.schema c.schema refl) (same_list c.args)
+
+chosen_alike : (c d : PlainChosen) (r : Result PlainChosen InstanceFault) → r ≡ Ok c → r ≡ Ok d → c ≡ d
+chosen_alike c d r e f = cc
+
+pub same_words_are_one_action : SameWordsAreOneAction
+same_words_are_one_action p s t x y e f names args =
+    same_choice x.chosen y.chosen
+    (chosen_alike x.chosen y.chosen (chosen_by p s.name s.args) (choice_is p s x e) (ap₂ (chosen_by p) names args ∙ choice_is p t y f))

@@ -1,5 +1,5 @@
 -- A step on a grid: what its ground action means, and what each step of a box keeps.
-use Rattle.std.proofs.Common.{◌≡◌, ◌≢◌, ℕ, ◌<◌, ◌≤◌, Bool, true, false, List, [], ◌∷◌, Option, Some, None, IfSome, refl, sym, ap, ◌∙◌, eq-eqb}
+use Rattle.std.proofs.Common.{◌≡◌, ◌≢◌, ℕ, ◌<◌, Bool, true, false, List, [], ◌∷◌, Option, Some, None, IfSome, refl, sym, ap, ◌∙◌, eq-eqb}
 use Rattle.std.specs.Prelude.{◌&&◌, ◌==◌, bytes_eq, is_some, option_map}
 use Rattle.std.specs.Cmp.Lexicographic.{pointwise}
 use Rattle.stp_base.specs.declared.ids.ObjectId.{ObjectId}
@@ -15,7 +15,7 @@ use Rattle.stp_cond.proofs.Shapes.{truth_is_of_shape}
 use Rattle.stp_value.specs.Durations as durations
 use Rattle.stp_value.specs.Durations.{PlainDuration}
 use Rattle.stp_task.specs.declared.action.GroundAction.{GroundAction}
-use Rattle.stp_task.specs.Actions.{PlainAction, PlainHappening, happening_of, action_of}
+use Rattle.stp_task.specs.Actions.{PlainAction, happening_of, action_of}
 use Rattle.stp_task.specs.Lawful.{lasts}
 use Rattle.stp_timing.specs.declared.moments.Moments.{Moments}
 use Rattle.stp_timing.specs.Held.{PlainHeld, Instant, Fixed, Open}

@@ -1,5 +1,5 @@
 -- What a plan of a problem is, its box, and when it is strong.
-use Rattle.std.specs.Prelude.{◌≡◌, ℕ, ◌+◌, ◌==◌, ◌<◌, unsigned_abs, Bool, true, false, ◌&&◌, List, [], ◌∷◌, map, flat_map, Result, Ok, option_map, All, bytes_eq}
+use Rattle.std.specs.Prelude.{◌≡◌, ℕ, ◌+◌, ◌==◌, ◌<◌, unsigned_abs, Bool, true, false, ◌&&◌, List, [], ◌∷◌, map, flat_map, Ok, option_map, All, bytes_eq}
 use Rattle.std.specs.List.{position_or_len}
 use Rattle.stp_frac.specs.Divisors.{gcd}
 use Rattle.stp_frac.specs.Fractions.{Fraction, is_below_zero}

@@ -66,11 +66,7 @@ fn schema_names(alloc: Global) -> Result<Names, Memory>
 }
 
 /// What is declared: f.
-fn declared(alloc: Global) -> Result<Declared<'static>, Memory>
-    ensures types { IfOk result (λ d. d.types.now ≡ TYPES) }
-    ensures predicates { IfOk result (λ d. d.predicates.now ≡ SYMBOLS) }
-    ensures functions { IfOk result (λ d. d.functions.now ≡ []) }
-{
+fn declared(alloc: Global) -> Result<Declared<'static>, Memory> {
     let type_names = names(alloc, b"object")?;
     let predicate_names = names(alloc, b"f")?;
     Ok(Declared {
@@ -128,9 +124,9 @@ fn problem<'a>(alloc: Global, arena: &'a Bump) -> Result<Problem<'a>, Memory> {
     let schema_names = schema_names(alloc)?;
     let domain = Domain {
         name: b"d",
-        types: &TYPES,
-        predicates: &SYMBOLS,
-        functions: &[],
+        types: declared.types,
+        predicates: declared.predicates,
+        functions: declared.functions,
         constants: &[],
         schemas,
         declared,

@@ -1,6 +1,6 @@
 use Rattle.std.proofs.Common.{map}
 use Rattle.stp_timing.specs.Timed.{plain_timed}
-use Rattle.stp_exec.proofs.Limits.{fine_beyond, late_beyond, none_beyond, all_timely}
+use Rattle.stp_exec.proofs.Limits.{fine_beyond, none_beyond, all_timely}
 use Rattle.stp_exec.proofs.boxes.grid_within.Goals as goal
 
 pub returns-in_default-clause-limits : goal.returns-in_default-clause-limits
