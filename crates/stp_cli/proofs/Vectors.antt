@@ -89,8 +89,7 @@ module _ (k g : ℕ) (pk : 0 < k) (pg : 0 < g) where
         ((λ chosen_open. absurd (true≢false (sym chosen_open))), rest n ds (All-tail (IsOn g) _ (times_of steps) on) lie even inside)
     one_more chosen start (Open low high) steps rest n [] on lie even inside = absurd (omega (arith, even))
     one_more chosen start (Open low high) steps rest n (d ∷ ds) on lie even inside =
-        let split = split_inside (is_within low high d) n (outside_from (n + 1) (open_bounds (times_of steps)) ds) inside in
-        (
+        let split = split_inside (is_within low high d) n (outside_from (n + 1) (open_bounds (times_of steps)) ds) inside in (
           within chosen start low high d (map (count_of fine) ds) (All-head (IsOn g) (record { start = start; held = Open low high }) (times_of steps) on) (All-head (Lies fine) d ds lie) split.0,
           rest (n + 1) ds (All-tail (IsOn g) (record { start = start; held = Open low high }) (times_of steps) on) (All-tail (Lies fine) d ds lie) (omega (arith, even)) split.1,
         )

@@ -33,7 +33,9 @@ fn command_lines(rt: HostRuntime) -> Result<(), Fail> {
             &rt,
             rt.alloc(),
             row,
-            [PLAIN, TASK, plan],
+            PLAIN,
+            TASK,
+            plan,
             USAGE,
             Status::Usage,
         )?;

@@ -95,7 +95,9 @@ fn strong_plans(rt: HostRuntime) -> Result<(), Fail> {
             &rt,
             rt.alloc(),
             &CHECK,
-            [LAB, problem, plan],
+            LAB,
+            problem,
+            plan,
             text,
             Status::Done,
         )?;
@@ -195,7 +197,9 @@ fn weak_plans(rt: HostRuntime) -> Result<(), Fail> {
             &rt,
             rt.alloc(),
             &CHECK,
-            [LAB, problem, plan],
+            LAB,
+            problem,
+            plan,
             text,
             Status::No,
         )?;
@@ -233,7 +237,7 @@ fn fixed_durations(rt: HostRuntime) -> Result<(), Fail> {
         ),
     ];
     for (plan, text, status) in rows {
-        answers(&rt, rt.alloc(), &CHECK, [PLAIN, TASK, plan], text, status)?;
+        answers(&rt, rt.alloc(), &CHECK, PLAIN, TASK, plan, text, status)?;
     }
     Ok(())
 }

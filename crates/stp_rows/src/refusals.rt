@@ -2,6 +2,7 @@
 
 use crate::setting::{CHECK, F_AT_FIRST, LAB, PLAIN, TASK, answers};
 use std::alloc::Global;
+use std::process::Abort;
 use std::test::Fail;
 use stp_cli::Status;
 
@@ -48,7 +49,9 @@ fn refused_plans(rt: HostRuntime) -> Result<(), Fail> {
             &rt,
             rt.alloc(),
             &CHECK,
-            [LAB, F_AT_FIRST, plan],
+            LAB,
+            F_AT_FIRST,
+            plan,
             text,
             Status::Refused,
         )?;
@@ -73,7 +76,9 @@ fn long_plans(rt: HostRuntime) -> Result<(), Fail> {
         &rt,
         alloc,
         &CHECK,
-        [LAB, F_AT_FIRST, plan.as_slice()],
+        LAB,
+        F_AT_FIRST,
+        plan.as_slice(),
         b"refused plan L02 at 501\n",
         Status::Refused,
     )?;
@@ -82,7 +87,9 @@ fn long_plans(rt: HostRuntime) -> Result<(), Fail> {
         &rt,
         alloc,
         &CHECK,
-        [LAB, F_AT_FIRST, plan.as_slice()],
+        LAB,
+        F_AT_FIRST,
+        plan.as_slice(),
         b"refused plan L01 at 502\n",
         Status::Refused,
     )
@@ -130,7 +137,9 @@ fn refused_files(rt: HostRuntime) -> Result<(), Fail> {
             &rt,
             rt.alloc(),
             &CHECK,
-            [domain, problem, b"x"],
+            domain,
+            problem,
+            b"x",
             text,
             Status::Refused,
         )?;
@@ -138,32 +147,42 @@ fn refused_files(rt: HostRuntime) -> Result<(), Fail> {
     Ok(())
 }
 
+/// So many lists inside one another.
+fn nested(alloc: Global, depth: usize) -> Result<Vec<u8>, Fail> {
+    let mut bytes = repeated(alloc, b"(", depth)?;
+    let closing = repeated(alloc, b")", depth)?;
+    bytes.extend_from_slice(closing.as_slice())?;
+    Ok(bytes)
+}
+
+fn refuses(rt: &impl Abort, alloc: Global, domain: &[u8], text: &[u8]) -> Result<(), Fail> {
+    answers(rt, alloc, &CHECK, domain, TASK, b"", text, Status::Refused)
+}
+
 #[test]
 fn long_and_deep_files(rt: HostRuntime) -> Result<(), Fail> {
     let alloc = rt.alloc();
-    let blanks = repeated(alloc, b" ", 1_048_577)?;
-    let longest = &blanks[..1_048_576];
-    let opening = repeated(alloc, b"(", 101)?;
-    let closing = repeated(alloc, b")", 101)?;
-    let mut deeper = Vec::new(alloc);
-    deeper.extend_from_slice(opening.as_slice())?;
-    deeper.extend_from_slice(closing.as_slice())?;
-    let deepest = &deeper[1..201];
-    let rows: [(&[u8], &[u8]); 4] = [
-        (blanks.as_slice(), b"refused domain F01 at 1048576\n"),
-        (longest, b"refused domain T06 at 1048576\n"),
-        (deeper.as_slice(), b"refused domain T03 at 100\n"),
-        (deepest, b"refused domain D01 at 0\n"),
-    ];
-    for (domain, text) in rows {
-        answers(
-            &rt,
-            alloc,
-            &CHECK,
-            [domain, TASK, b""],
-            text,
-            Status::Refused,
-        )?;
-    }
-    Ok(())
+    let longer = repeated(alloc, b" ", 1_048_577)?;
+    refuses(
+        &rt,
+        alloc,
+        longer.as_slice(),
+        b"refused domain F01 at 1048576\n",
+    )?;
+    let longest = repeated(alloc, b" ", 1_048_576)?;
+    refuses(
+        &rt,
+        alloc,
+        longest.as_slice(),
+        b"refused domain T06 at 1048576\n",
+    )?;
+    let deeper = nested(alloc, 101)?;
+    refuses(
+        &rt,
+        alloc,
+        deeper.as_slice(),
+        b"refused domain T03 at 100\n",
+    )?;
+    let deepest = nested(alloc, 100)?;
+    refuses(&rt, alloc, deepest.as_slice(), b"refused domain D01 at 0\n")
 }

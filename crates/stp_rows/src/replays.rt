@@ -48,7 +48,7 @@ fn runs(rt: HostRuntime) -> Result<(), Fail> {
     ];
     for (problem, plan, list, text, status) in rows {
         let words = ["stp", "replay", "d", "p", "l", "--durations", list];
-        answers(&rt, rt.alloc(), &words, [LAB, problem, plan], text, status)?;
+        answers(&rt, rt.alloc(), &words, LAB, problem, plan, text, status)?;
     }
     Ok(())
 }
@@ -85,7 +85,9 @@ fn refused_lists(rt: HostRuntime) -> Result<(), Fail> {
             &rt,
             rt.alloc(),
             &words,
-            [LAB, NOTHING, plan],
+            LAB,
+            NOTHING,
+            plan,
             text,
             Status::Refused,
         )?;

@@ -81,7 +81,7 @@ fn rovers(rt: HostRuntime) -> Result<(), Fail> {
         ),
     ];
     for (plan, text, status) in rows {
-        answers(&rt, rt.alloc(), &CHECK, [ROVER, TWO, plan], text, status)?;
+        answers(&rt, rt.alloc(), &CHECK, ROVER, TWO, plan, text, status)?;
     }
     Ok(())
 }
@@ -133,7 +133,7 @@ fn quantified_conditions(rt: HostRuntime) -> Result<(), Fail> {
         ),
     ];
     for (problem, plan, text, status) in rows {
-        answers(&rt, rt.alloc(), &CHECK, [MANY, problem, plan], text, status)?;
+        answers(&rt, rt.alloc(), &CHECK, MANY, problem, plan, text, status)?;
     }
     Ok(())
 }
@@ -151,7 +151,9 @@ fn atoms_that_folding_drops(rt: HostRuntime) -> Result<(), Fail> {
         &rt,
         rt.alloc(),
         &CHECK,
-        [FOLDED, ONE, b"1: (look o)\n1: (put)"],
+        FOLDED,
+        ONE,
+        b"1: (look o)\n1: (put)",
         b"not strong\ndurations none\nfault interference at 1 steps 1 2\n",
         Status::No,
     )?;
@@ -159,7 +161,9 @@ fn atoms_that_folding_drops(rt: HostRuntime) -> Result<(), Fail> {
         &rt,
         rt.alloc(),
         &CHECK,
-        [FOLDED, ONE, b"1: (look o)\n2: (put)"],
+        FOLDED,
+        ONE,
+        b"1: (look o)\n2: (put)",
         b"strong\nsteps 2 uncertain 0 grid 1\n",
         Status::Done,
     )

@@ -78,12 +78,13 @@ pub fn answers(
     rt: &impl Abort,
     alloc: Global,
     texts: &[&str],
-    files: [&[u8]; 3],
+    domain: &[u8],
+    problem: &[u8],
+    plan: &[u8],
     text: &[u8],
     status: Status,
 ) -> Result<(), Fail> {
     let words = words(alloc, texts)?;
-    let [domain, problem, plan] = files;
     let mut store = store(alloc, domain, problem, plan)?;
     let mut sink = MemorySink::new(alloc, 1000, 1000)?;
     let ended = run(alloc, words.as_slice(), &mut store, &mut sink);

@@ -56,10 +56,7 @@ fn push_windows<'a>(
 }
 
 /// The windows of these steps, in the order of the steps.
-pub fn windows_of<'a>(
-    alloc: Global,
-    steps: &[BoxStep<'a>],
-) -> Result<Vec<Window<'a>>, Memory>
+pub fn windows_of<'a>(alloc: Global, steps: &[BoxStep<'a>]) -> Result<Vec<Window<'a>>, Memory>
     requires { length steps.now ≤ 500 }
     ensures points { IfOk result (λ r. points_of r.items ≡ points_from 1 (steps_of steps.now)) }
     ensures in_range { IfOk result (λ r. (grid n : ℕ) → All (IsBoxStep grid n) steps.now → All (λ w. IsEventInRange n w.event) r.items) }
@@ -74,10 +71,7 @@ pub fn windows_of<'a>(
 }
 
 /// These steps with their numbers, from 1 on.
-pub fn numbered<'a>(
-    alloc: Global,
-    steps: &[BoxStep<'a>],
-) -> Result<Vec<NumberedStep<'a>>, Memory>
+pub fn numbered<'a>(alloc: Global, steps: &[BoxStep<'a>]) -> Result<Vec<NumberedStep<'a>>, Memory>
     requires { length steps.now ≤ 500 }
     ensures spans { IfOk result (λ r. spans_of r.items ≡ open_spans_from 1 (steps_of steps.now)) }
     ensures in_range { IfOk result (λ r. (grid n : ℕ) → All (IsBoxStep grid n) steps.now → All (λ s. is_below n s.step.over.now ≡ true) r.items) }

@@ -35,8 +35,7 @@ returns-clause-ok c =
     let task = problem_of c.args.problem.now in
     let steps = map plain_placed c.in-Ok-place.placed in
     let there : placed_from 1 task (plain_plan c.in-Ok.lines) ≡ Ok steps = subst (λ p. placed_from 1 p (plain_plan c.in-Ok.lines) ≡ Ok steps) c.in_ok-world.ensures c.in-Ok-place.ensures.placed in
-    let same : problem_in c.place.new.world ≡ task = c.in-Ok-place.ensures.same ∙ c.in_ok-world.ensures in
-    (
+    let same : problem_in c.place.new.world ≡ task = c.in-Ok-place.ensures.same ∙ c.in_ok-world.ensures in (
       steps,
       are_steps task c.args.plan.now (plain_plan c.in-Ok.lines) c.in-Ok.ensures.ok steps there (ap (λ l. beyond_limits (map plain_placed l)) (sym c.as_slice.ensures) ∙ c.in-Ok-box_placed.ensures.limits),
       record {

@@ -9,7 +9,7 @@ pub returns : goal.returns
 returns c =
     IfOk-weaker c.judge_case.result _ _
     (λ r told.
-      let (steps, read, stands) = c.in-Ok.ensures.ok in
-      let (answer, right, status, text) = told (case_with (problem_of c.args.problem.now) steps) stands in
-      (answer, steps_judged (plain_command c.args.command.now) c.args.plan.now answer (problem_of c.args.problem.now) steps read right, status, text))
+    let (steps, read, stands) = c.in-Ok.ensures.ok in
+    let (answer, right, status, text) = told (case_with (problem_of c.args.problem.now) steps) stands in
+    (answer, steps_judged (plain_command c.args.command.now) c.args.plan.now answer (problem_of c.args.problem.now) steps read right, status, text))
     c.judge_case.ensures

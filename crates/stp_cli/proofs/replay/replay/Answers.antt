@@ -32,9 +32,11 @@ run_on-requires-clause-vector c =
 pub returns : goal.returns
 returns c =
     IfOk-weaker c.run_on.result _ _
-    (λ r (answer, run, status, text). λ case s.
-      (answer,
+    (λ r (answer, run, status, text). λ case s. (
+      answer,
       made_replayed c.args.case.now case s c.as_slice.result.now c.in-Ok-fit.fitted.grid (rw c.deref.ensures.value at c.in-Ok-fit.ensures.grid) (rw c.deref.ensures.value at c.in-Ok-fit.ensures.judged)
-      c.args.list.now c.as_slice-2.result.now answer (c.in-Ok.ensures.ok ∙ ap (λ l. Ok (map value_of l)) (sym c.as_slice.ensures)) (c.as_slice-2.ensures ∙ c.in-Ok-fit.ensures.durations) run,
-      status, text))
+          c.args.list.now c.as_slice-2.result.now answer (c.in-Ok.ensures.ok ∙ ap (λ l. Ok (map value_of l)) (sym c.as_slice.ensures)) (c.as_slice-2.ensures ∙ c.in-Ok-fit.ensures.durations) run,
+      status,
+      text,
+    ))
     c.run_on.ensures
