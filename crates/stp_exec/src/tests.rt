@@ -9,8 +9,10 @@ use bumpalo::Bump;
 use std::alloc::Global;
 use std::test::Fail;
 use stp_ancestors::Ancestry;
-use stp_base::{Memory, StepId};
+use stp_atoms::AtomTable;
+use stp_base::{List, Memory, StepId};
 use stp_frac::Frac;
+use stp_ground::instance;
 use stp_happen::BoxStep;
 use stp_names::Names;
 use stp_offence::Code;
@@ -190,5 +192,22 @@ fn plans_are_refused(rt: HostRuntime) -> Result<(), Fail> {
     assert_eq!(rt; fine, Some(ExecFault::GridTooFine));
     let late = fault(alloc, b"0: (b)\n999999998: (a) [*]")?;
     assert_eq!(rt; late, Some(ExecFault::TimeTooLarge(StepId(2))));
+    Ok(())
+}
+
+#[test]
+fn names_choose_instances(rt: HostRuntime) -> Result<(), Fail> {
+    let alloc = rt.alloc();
+    let arena = Bump::new(alloc);
+    let problem = problem(alloc, &arena)?;
+    let mut table = AtomTable::new(alloc);
+    let none = List::new(alloc);
+    let slow = instance(alloc, &arena, &problem, &mut table, b"a", &none)?;
+    assert_eq!(rt; slow.start.reads.len(), 0);
+    assert!(rt; slow.finish.is_some());
+    let quick = instance(alloc, &arena, &problem, &mut table, b"b", &none)?;
+    assert_eq!(rt; quick.start.reads.len(), 1);
+    assert!(rt; quick.finish.is_none());
+    assert_eq!(rt; table.len(), 1);
     Ok(())
 }
