@@ -3,8 +3,8 @@
 ghost use Rattle.std.specs.Prelude.{◌≡◌, ◌∷◌, [], codes, IfOk};
 
 use crate::{
-    Members, expand, fold_ground, number_atoms, number_written, reads_of, written_numbers,
-    written_under,
+    Ground, Members, Written, expand, fold_ground, number_atoms, number_written, reads_of,
+    written_numbers, written_under,
 };
 use bumpalo::Bump;
 use std::alloc::Global;
@@ -204,24 +204,81 @@ fn print_table(out: &mut Text, table: &AtomTable) -> Result<(), Memory> {
     Ok(())
 }
 
-/// What is left of a condition where `?x` is object 1 and `(s 1)` is a fact, the atoms that it reads, and the table.
-fn folded(alloc: Global, declared: &Declared<'_>, cond: &Lifted<'_>) -> Result<Text, Memory> {
-    let arena = Bump::new(alloc);
+/// A condition where `?x` is object 1.
+fn expanded<'a>(
+    alloc: Global,
+    arena: &'a Bump,
+    declared: &'a Declared<'a>,
+    cond: &Lifted<'_>,
+) -> Result<Ground<'a>, Memory> {
     let mut members = Members::new(alloc, declared, &OBJECTS)?;
     let mut binding = Vec::from_slice(alloc, &[ObjectId(1)])?;
-    let ground = expand(alloc, &arena, &mut members, &mut binding, cond)?;
+    expand(alloc, arena, &mut members, &mut binding, cond)
+}
+
+/// The atoms of a condition.
+fn numbered(alloc: Global, ground: &Ground<'_>) -> Result<AtomTable, Memory> {
     let mut table = AtomTable::new(alloc);
-    number_atoms(&mut table, &FLUENT, &ground)?;
+    number_atoms(&mut table, &FLUENT, ground)?;
+    Ok(table)
+}
+
+/// The fact `(s 1)`.
+fn facts(alloc: Global) -> Result<AtomTable, Memory> {
     let mut facts = AtomTable::new(alloc);
     facts.number(3, &[ObjectId(1)])?;
-    let cond = fold_ground(alloc, &arena, &table, &FLUENT, &facts, &ground)?;
-    let reads = reads_of(alloc, &arena, &table, &FLUENT, &ground)?;
+    Ok(facts)
+}
+
+/// Writes what is left of a condition.
+fn print_left(
+    alloc: Global,
+    out: &mut Text,
+    table: &AtomTable,
+    ground: &Ground<'_>,
+) -> Result<(), Memory> {
+    let arena = Bump::new(alloc);
+    let facts = facts(alloc)?;
+    let cond = fold_ground(alloc, &arena, table, &FLUENT, &facts, ground)?;
+    print(out, &cond)?;
+    out.push(b";")
+}
+
+/// Writes the atoms that a condition reads, and the table.
+fn print_reads(
+    alloc: Global,
+    out: &mut Text,
+    table: &AtomTable,
+    ground: &Ground<'_>,
+) -> Result<(), Memory> {
+    let arena = Bump::new(alloc);
+    let reads = reads_of(alloc, &arena, table, &FLUENT, ground)?;
+    print_atoms(out, reads)?;
+    print_table(out, table)
+}
+
+/// What is left of a condition, the atoms that it reads, and the table.
+fn printed(alloc: Global, ground: &Ground<'_>) -> Result<Text, Memory> {
+    let table = numbered(alloc, ground)?;
     let mut out = Text::new(alloc);
-    print(&mut out, &cond)?;
-    out.push(b";")?;
-    print_atoms(&mut out, reads)?;
-    print_table(&mut out, &table)?;
+    print_left(alloc, &mut out, &table, ground)?;
+    print_reads(alloc, &mut out, &table, ground)?;
     Ok(out)
+}
+
+/// The same where `?x` is object 1 and `(s 1)` is a fact.
+fn folded(alloc: Global, declared: &Declared<'_>, cond: &Lifted<'_>) -> Result<Text, Memory> {
+    let arena = Bump::new(alloc);
+    let ground = expanded(alloc, &arena, declared, cond)?;
+    printed(alloc, &ground)
+}
+
+/// Whether a condition is folded to this text.
+fn is_folded(alloc: Global, declared: &Declared<'_>, cond: &Lifted<'_>, wanted: &[u8]) -> bool {
+    match folded(alloc, declared, cond) {
+        Ok(found) => found.as_slice() == wanted,
+        Err(_memory) => false,
+    }
 }
 
 // Two different items that are near.
@@ -256,15 +313,48 @@ const CASES: [(Lifted<'static>, &[u8]); 9] = [
     ),
 ];
 
+/// Whether each condition is folded to its text.
+fn all_are_folded(alloc: Global, declared: &Declared<'_>) -> bool {
+    for (cond, wanted) in CASES.iter() {
+        if !is_folded(alloc, declared, cond, wanted) {
+            return false;
+        }
+    }
+    true
+}
+
 #[test]
 fn conditions_are_folded(rt: HostRuntime) -> Result<(), Fail> {
-    let alloc = rt.alloc();
-    let declared = declared(alloc)?;
-    for (cond, wanted) in CASES.iter() {
-        let found = folded(alloc, &declared, cond)?;
-        assert!(rt; found.as_slice() == *wanted);
-    }
+    let declared = declared(rt.alloc())?;
+    assert!(rt; all_are_folded(rt.alloc(), &declared));
     Ok(())
+}
+
+/// The atoms that are added or deleted.
+fn written_table(
+    alloc: Global,
+    adds: &[Written<'_>],
+    dels: &[Written<'_>],
+) -> Result<AtomTable, Memory> {
+    let mut table = AtomTable::new(alloc);
+    number_written(&mut table, adds)?;
+    number_written(&mut table, dels)?;
+    Ok(table)
+}
+
+/// Writes the numbers of the atoms that are added and deleted, and the table.
+fn print_written(
+    alloc: Global,
+    out: &mut Text,
+    adds: &[Written<'_>],
+    dels: &[Written<'_>],
+) -> Result<(), Memory> {
+    let arena = Bump::new(alloc);
+    let table = written_table(alloc, adds, dels)?;
+    let (added, deleted) = written_numbers(alloc, &arena, &table, adds, dels)?;
+    print_atoms(out, added)?;
+    print_atoms(out, deleted)?;
+    print_table(out, &table)
 }
 
 /// The atoms that an effect adds and deletes where `?x` is object 1, and the table.
@@ -274,17 +364,10 @@ fn written(
     dels: &[LiftedAtom<'_>],
 ) -> Result<Text, Memory> {
     let arena = Bump::new(alloc);
-    let binding = [ObjectId(1)];
-    let adds = written_under(&arena, &binding, adds)?;
-    let dels = written_under(&arena, &binding, dels)?;
-    let mut table = AtomTable::new(alloc);
-    number_written(&mut table, adds)?;
-    number_written(&mut table, dels)?;
-    let (added, deleted) = written_numbers(alloc, &arena, &table, adds, dels)?;
+    let adds = written_under(&arena, &[ObjectId(1)], adds)?;
+    let dels = written_under(&arena, &[ObjectId(1)], dels)?;
     let mut out = Text::new(alloc);
-    print_atoms(&mut out, added)?;
-    print_atoms(&mut out, deleted)?;
-    print_table(&mut out, &table)?;
+    print_written(alloc, &mut out, adds, dels)?;
     Ok(out)
 }
 
