@@ -4,11 +4,9 @@ ghost use Rattle.std.specs.Prelude.{◌≡◌, ◌<◌, ◌≤◌, length, All, 
 ghost use Rattle.stp_cond.specs.Events.{IsEventInRange};
 ghost use Rattle.stp_happen.specs.SoundBox.{IsBoxStep};
 
-use crate::is_sound;
-use crate::tests::{first_failing, is_found};
+use crate::tests::{fails_first_at, is_judged};
 use bumpalo::Bump;
 use std::alloc::Global;
-use std::test::*;
 use stp_base::{AtomId, List, Memory, StateRow};
 use stp_cond::{Event, conjunctive_event};
 use stp_happen::{BoxRun, BoxStep};
@@ -183,38 +181,47 @@ fn held<'a>(alloc: Global, arena: &'a Bump, atom: AtomId) -> Result<BoxRun<'a>, 
     })
 }
 
-/// Whether the plain check, and all vectors on the grid and on finer ones, give this verdict.
-fn is_judged(alloc: Global, boxed: &BoxRun<'_>, strong: bool) -> Result<bool, Memory>
-    requires { boxed.now.grid ≤ 12 }
+/// Whether the rovers' box has this verdict.
+fn rovers_are(alloc: Global, picture: u128, strong: bool) -> Result<bool, Memory>
+    requires { picture ≤ 100 }
 {
-    let checked = is_sound(alloc, boxed)? == strong;
-    let found = is_found(alloc, boxed, 1, strong)?;
-    let twice = is_found(alloc, boxed, 2, strong)?;
-    let thrice = is_found(alloc, boxed, 3, strong)?;
-    Ok(checked && found && twice && thrice)
+    let arena = Bump::new(alloc);
+    let boxed = rovers(alloc, &arena, picture)?;
+    is_judged(alloc, &boxed, strong)
+}
+
+/// Whether the rovers' box fails first at these durations.
+fn rovers_fail_at(alloc: Global, picture: u128, durations: &[u128]) -> Result<bool, Memory>
+    requires { picture ≤ 100 }
+{
+    let arena = Bump::new(alloc);
+    let boxed = rovers(alloc, &arena, picture)?;
+    fails_first_at(alloc, &boxed, durations)
 }
 
 #[test]
-fn rovers_in_halves(rt: HostRuntime) -> Result<(), Fail> {
-    let alloc = rt.alloc();
+fn rovers_in_halves(rt: HostRuntime) {
+    let late = rovers_are(rt.alloc(), 16, true);
+    assert!(rt; matches!(late, Ok(true)), "pictures at 8 and 4.5");
+    let soon = rovers_are(rt.alloc(), 12, false);
+    assert!(rt; matches!(soon, Ok(true)), "pictures at 6 and 4.5");
+    let first = rovers_fail_at(rt.alloc(), 12, &[13, 5]);
+    assert!(rt; matches!(first, Ok(true)), "the first failure");
+}
+
+/// Whether the box of the action that needs an atom all through has this verdict.
+fn held_is(alloc: Global, atom: AtomId, strong: bool) -> Result<bool, Memory>
+    requires { atom.0 < 8 }
+{
     let arena = Bump::new(alloc);
-    let late = rovers(alloc, &arena, 16)?;
-    assert!(rt; is_judged(alloc, &late, true)?, "pictures at 8 and 4.5");
-    let soon = rovers(alloc, &arena, 12)?;
-    assert!(rt; is_judged(alloc, &soon, false)?, "pictures at 6 and 4.5");
-    let found = first_failing(alloc, &soon, 0, &[])?;
-    let durations = found.ok_or("no failure")?;
-    assert_eq!(rt; durations.as_slice(), [13, 5].as_slice());
-    Ok(())
+    let boxed = held(alloc, &arena, atom)?;
+    is_judged(alloc, &boxed, strong)
 }
 
 #[test]
-fn held_from_a_third(rt: HostRuntime) -> Result<(), Fail> {
-    let alloc = rt.alloc();
-    let arena = Bump::new(alloc);
-    let strong = held(alloc, &arena, FIRST_STILL)?;
-    assert!(rt; is_judged(alloc, &strong, true)?, "what it needs is there");
-    let weak = held(alloc, &arena, FIRST_AT_A)?;
-    assert!(rt; is_judged(alloc, &weak, false)?, "what it needs is missing");
-    Ok(())
+fn held_from_a_third(rt: HostRuntime) {
+    let strong = held_is(rt.alloc(), FIRST_STILL, true);
+    assert!(rt; matches!(strong, Ok(true)), "what it needs is there");
+    let weak = held_is(rt.alloc(), FIRST_AT_A, false);
+    assert!(rt; matches!(weak, Ok(true)), "what it needs is missing");
 }
