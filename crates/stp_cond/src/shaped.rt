@@ -122,71 +122,106 @@ fn replaced<'a>(alloc: Global, arena: &'a Bump, cond: &Cond<'a>) -> Result<Text,
     spelled(alloc, &new)
 }
 
-#[test]
-fn folding(rt: HostRuntime) -> Result<(), Fail> {
-    let rows: [(&[u8], &[u8]); 20] = [
-        (b"0", b"t"),
-        (b"1", b"f"),
-        (b"2", b"2"),
-        (b"!(2)", b"!(2)"),
-        (b"!(0)", b"f"),
-        (b"!(1)", b"t"),
-        (b"&()", b"t"),
-        (b"|()", b"f"),
-        (b"&(023)", b"&(23)"),
-        (b"|(123)", b"|(23)"),
-        (b"&(2013)", b"f"),
-        (b"|(2013)", b"t"),
-        (b"&(02)", b"2"),
-        (b"|(1!(2))", b"!(2)"),
-        (b"&(0t)", b"t"),
-        (b"|(1f)", b"f"),
-        (b"|(&(01)!(|(12))&(0|(13)))", b"|(!(2)3)"),
-        (b"&(|(01)!(|(12))&(0|(13)))", b"&(!(2)3)"),
-        (b"&(2!(|(01)))", b"f"),
-        (b"&(&(23)|(32))", b"&(&(23)|(32))"),
-    ];
-    for (text, want) in rows {
-        let arena = Bump::new(rt.alloc());
-        let cond = read(rt.alloc(), &arena, text)?;
-        let text = folded(rt.alloc(), &arena, &cond)?;
-        assert_eq!(rt; text.as_slice(), want);
+const FOLDED: [(&[u8], &[u8]); 20] = [
+    (b"0", b"t"),
+    (b"1", b"f"),
+    (b"2", b"2"),
+    (b"!(2)", b"!(2)"),
+    (b"!(0)", b"f"),
+    (b"!(1)", b"t"),
+    (b"&()", b"t"),
+    (b"|()", b"f"),
+    (b"&(023)", b"&(23)"),
+    (b"|(123)", b"|(23)"),
+    (b"&(2013)", b"f"),
+    (b"|(2013)", b"t"),
+    (b"&(02)", b"2"),
+    (b"|(1!(2))", b"!(2)"),
+    (b"&(0t)", b"t"),
+    (b"|(1f)", b"f"),
+    (b"|(&(01)!(|(12))&(0|(13)))", b"|(!(2)3)"),
+    (b"&(|(01)!(|(12))&(0|(13)))", b"&(!(2)3)"),
+    (b"&(2!(|(01)))", b"f"),
+    (b"&(&(23)|(32))", b"&(&(23)|(32))"),
+];
+
+/// The text of a formula folded.
+fn text_folded(alloc: Global, text: &[u8]) -> Result<Text, Memory> {
+    let arena = Bump::new(alloc);
+    let cond = read(alloc, &arena, text)?;
+    folded(alloc, &arena, &cond)
+}
+
+/// Whether a text was made, and is this one.
+fn is_text(found: Result<Text, Memory>, wanted: &[u8]) -> bool {
+    match found {
+        Ok(text) => text.as_slice() == wanted,
+        Err(_memory) => false,
     }
-    Ok(())
 }
 
 #[test]
-fn substituting(rt: HostRuntime) -> Result<(), Fail> {
-    let rows: [(&[u8], &[u8]); 7] = [
-        (b"1", b"3"),
-        (b"3", b"7"),
-        (b"2", b"2"),
-        (b"f", b"f"),
-        (b"&()", b"&()"),
-        (b"|()", b"|()"),
-        (b"&(1!(3)|(21f)t)", b"&(3!(7)|(23f)t)"),
-    ];
-    for (text, want) in rows {
-        let arena = Bump::new(rt.alloc());
-        let cond = read(rt.alloc(), &arena, text)?;
-        let text = replaced(rt.alloc(), &arena, &cond)?;
-        assert_eq!(rt; text.as_slice(), want);
+fn folding(rt: HostRuntime) {
+    for (text, wanted) in FOLDED.iter() {
+        assert!(rt; is_text(text_folded(rt.alloc(), text), wanted));
     }
-    Ok(())
+}
+
+const REPLACED: [(&[u8], &[u8]); 7] = [
+    (b"1", b"3"),
+    (b"3", b"7"),
+    (b"2", b"2"),
+    (b"f", b"f"),
+    (b"&()", b"&()"),
+    (b"|()", b"|()"),
+    (b"&(1!(3)|(21f)t)", b"&(3!(7)|(23f)t)"),
+];
+
+/// The text of a formula with other atoms.
+fn text_replaced(alloc: Global, text: &[u8]) -> Result<Text, Memory> {
+    let arena = Bump::new(alloc);
+    let cond = read(alloc, &arena, text)?;
+    replaced(alloc, &arena, &cond)
 }
 
 #[test]
-fn negation_and_atoms(rt: HostRuntime) -> Result<(), Fail> {
-    let arena = Bump::new(rt.alloc());
-    let either = read(rt.alloc(), &arena, b"|(56)")?;
-    let negated = negate(&arena, &either)?;
-    let text = spelled(rt.alloc(), &negated)?;
-    assert_eq!(rt; text.as_slice(), b"!(|(56))".as_slice());
-    let cond = read(rt.alloc(), &arena, b"&(7!(|(56))2t70)")?;
-    let found = atoms(rt.alloc(), &cond)?;
-    let want = [AtomId(0), AtomId(2), AtomId(5), AtomId(6), AtomId(7)];
-    assert_eq!(rt; found.as_slice(), want.as_slice());
-    Ok(())
+fn substituting(rt: HostRuntime) {
+    for (text, wanted) in REPLACED.iter() {
+        assert!(rt; is_text(text_replaced(rt.alloc(), text), wanted));
+    }
+}
+
+/// The text of the negation of a formula.
+fn text_negated(alloc: Global, text: &[u8]) -> Result<Text, Memory> {
+    let arena = Bump::new(alloc);
+    let cond = read(alloc, &arena, text)?;
+    let negated = negate(&arena, &cond)?;
+    spelled(alloc, &negated)
+}
+
+/// Whether the atoms of a formula are these.
+fn has_atoms(alloc: Global, cond: &Cond<'_>, wanted: &[AtomId]) -> bool {
+    match atoms(alloc, cond) {
+        Ok(found) => found.as_slice() == wanted,
+        Err(_memory) => false,
+    }
+}
+
+/// Whether the atoms of a text's formula are these.
+fn text_has_atoms(alloc: Global, text: &[u8], wanted: &[AtomId]) -> bool {
+    let arena = Bump::new(alloc);
+    match read(alloc, &arena, text) {
+        Ok(cond) => has_atoms(alloc, &cond, wanted),
+        Err(_memory) => false,
+    }
+}
+
+#[test]
+fn negation_and_atoms(rt: HostRuntime) {
+    let alloc = rt.alloc();
+    assert!(rt; is_text(text_negated(alloc, b"|(56)"), b"!(|(56))"));
+    let wanted = [AtomId(0), AtomId(2), AtomId(5), AtomId(6), AtomId(7)];
+    assert!(rt; text_has_atoms(alloc, b"&(7!(|(56))2t70)", &wanted));
 }
 
 /// The atom 0 under so many negations of a conjunction of a disjunction, each with the atom 1.
@@ -200,22 +235,36 @@ fn deep<'a>(arena: &'a Bump, count: u32) -> Result<Cond<'a>, Memory> {
     Ok(cond)
 }
 
+/// Whether a formula holds where the first of two atoms is true and the other false.
+fn holds_at_first(alloc: Global, cond: &Cond<'_>) -> Option<bool> {
+    if !within(cond, 2) {
+        return None;
+    }
+    let mut row = StateRow::new(alloc, 2).ok()?;
+    row.set(AtomId(0), true);
+    Some(holds(cond, &row))
+}
+
+/// Whether a deep formula has its two atoms, folds to false, and is false.
+fn is_deep<'a>(alloc: Global, arena: &'a Bump, cond: &Cond<'a>) -> bool {
+    has_atoms(alloc, cond, &[AtomId(0), AtomId(1)])
+        && is_text(folded(alloc, arena, cond), b"f")
+        && holds_at_first(alloc, cond) == Some(false)
+}
+
+/// Whether the same with the atom 1 alone folds to true, and is true.
+fn is_turned<'a>(alloc: Global, arena: &'a Bump, cond: &Cond<'a>) -> bool {
+    let Ok(turned) = substitute(alloc, arena, cond, &[AtomId(0)], &[AtomId(1)]) else {
+        return false;
+    };
+    is_text(folded(alloc, arena, &turned), b"t") && holds_at_first(alloc, &turned) == Some(true)
+}
+
 #[test]
 fn deep_formulas(rt: HostRuntime) -> Result<(), Fail> {
     let arena = Bump::new(rt.alloc());
     let cond = deep(&arena, 85)?;
-    let found = atoms(rt.alloc(), &cond)?;
-    assert_eq!(rt; found.as_slice(), [AtomId(0), AtomId(1)].as_slice());
-    let text = folded(rt.alloc(), &arena, &cond)?;
-    assert_eq!(rt; text.as_slice(), b"f".as_slice());
-    let turned = substitute(rt.alloc(), &arena, &cond, &[AtomId(0)], &[AtomId(1)])?;
-    let text = folded(rt.alloc(), &arena, &turned)?;
-    assert_eq!(rt; text.as_slice(), b"t".as_slice());
-    let mut row = StateRow::new(rt.alloc(), 2)?;
-    row.set(AtomId(0), true);
-    assert!(rt; within(&cond, 2));
-    assert!(rt; !holds(&cond, &row));
-    assert!(rt; within(&turned, 2));
-    assert!(rt; holds(&turned, &row));
+    assert!(rt; is_deep(rt.alloc(), &arena, &cond));
+    assert!(rt; is_turned(rt.alloc(), &arena, &cond));
     Ok(())
 }

@@ -53,37 +53,37 @@ fn formulas(rt: HostRuntime) -> Result<(), Fail> {
     Ok(())
 }
 
+/// Whether a list with two equal atoms is put in order.
+fn is_ascending(alloc: Global) -> bool {
+    let arena = Bump::new(alloc);
+    let atoms = [AtomId(7), AtomId(2), AtomId(7), AtomId(0)];
+    match ascending(alloc, &arena, &atoms) {
+        Ok(found) => found == [AtomId(0), AtomId(2), AtomId(7)].as_slice(),
+        Err(_memory) => false,
+    }
+}
+
+/// Whether an event that needs 3, adds 5 and deletes 5 and 4 reads, adds and deletes so.
+fn is_needing(event: &Event<'_>) -> bool {
+    event.reads == [AtomId(3)].as_slice()
+        && event.adds == [AtomId(5)].as_slice()
+        && event.dels == [AtomId(4)].as_slice()
+}
+
+/// Whether that event meets one that adds 3, and none that only needs 3 and adds 5.
+fn meets(alloc: Global, arena: &Bump, needing: &Event<'_>) -> Result<bool, Memory> {
+    let adding = conjunctive_event(alloc, arena, &[], &[AtomId(3)], &[])?;
+    let same = conjunctive_event(alloc, arena, &[AtomId(3)], &[AtomId(5)], &[])?;
+    Ok(interfere(needing, &adding) && interfere(&adding, needing) && !interfere(needing, &same))
+}
+
 #[test]
 fn events(rt: HostRuntime) -> Result<(), Fail> {
+    assert!(rt; is_ascending(rt.alloc()));
     let arena = Bump::new(rt.alloc());
-    let found = ascending(
-        rt.alloc(),
-        &arena,
-        &[AtomId(7), AtomId(2), AtomId(7), AtomId(0)],
-    )
-    .ok()
-    .ok_or("memory")?;
-    assert_eq!(rt; found, [AtomId(0), AtomId(2), AtomId(7)].as_slice());
-    let needing = conjunctive_event(
-        rt.alloc(),
-        &arena,
-        &[AtomId(3)],
-        &[AtomId(5)],
-        &[AtomId(5), AtomId(4)],
-    )
-    .ok()
-    .ok_or("memory")?;
-    assert_eq!(rt; needing.reads, [AtomId(3)].as_slice());
-    assert_eq!(rt; needing.adds, [AtomId(5)].as_slice());
-    assert_eq!(rt; needing.dels, [AtomId(4)].as_slice());
-    let adding = conjunctive_event(rt.alloc(), &arena, &[], &[AtomId(3)], &[])
-        .ok()
-        .ok_or("memory")?;
-    let same = conjunctive_event(rt.alloc(), &arena, &[AtomId(3)], &[AtomId(5)], &[])
-        .ok()
-        .ok_or("memory")?;
-    assert!(rt; interfere(&needing, &adding));
-    assert!(rt; interfere(&adding, &needing));
-    assert!(rt; !interfere(&needing, &same));
+    let dels = [AtomId(5), AtomId(4)];
+    let needing = conjunctive_event(rt.alloc(), &arena, &[AtomId(3)], &[AtomId(5)], &dels)?;
+    assert!(rt; is_needing(&needing));
+    assert!(rt; meets(rt.alloc(), &arena, &needing)?);
     Ok(())
 }
