@@ -195,7 +195,7 @@ def table(title, make, sizes, runs):
 def main():
     runs = int(sys.argv[1]) if len(sys.argv) > 1 else 5
     if not os.access(PROGRAM, os.X_OK):
-        sys.exit("build the program first: ./stp check examples/rover/domain.pddl examples/rover/problem.pddl examples/rover/strong.plan")
+        sys.exit("build the program first: ./stp build")
     print("user time, and the factor from the row before")
     table("a chain of steps", chain, [50, 100, 200, 400, 500], runs)
     table("steps of one moment", crowd, [50, 100, 200, 400, 500], runs)

@@ -124,7 +124,7 @@ def wide(width):
 def main():
     runs = int(sys.argv[1]) if len(sys.argv) > 1 else 5
     if not os.access(PROGRAM, os.X_OK):
-        sys.exit("build the program first: ./stp check examples/rover/domain.pddl examples/rover/problem.pddl examples/rover/strong.plan")
+        sys.exit("build the program first: ./stp build")
     steps = [50, 100, 200, 400, 500]
     print("user time, and the factor from the row before")
     table(f"steps, {OVERLAPPING} uncertain ends at most overlap", blocks, steps, runs)

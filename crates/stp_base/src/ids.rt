@@ -9,7 +9,7 @@ pub struct AtomId(pub u32);
 pub struct ActionId(pub u32);
 
 /// The number of an object, from 0.
-#[derive(Clone, Copy, Debug, PartialEq, Eq, PartialOrd, Ord, Hash)]
+#[derive(Clone, Copy, Debug, Default, PartialEq, Eq, PartialOrd, Ord, Hash)]
 pub struct ObjectId(pub u32);
 
 /// The number of a step of a plan, from 1.

@@ -13,6 +13,3 @@ pub use list::List;
 pub use memory::Memory;
 pub use row::StateRow;
 pub use text::Text;
-
-#[cfg(test)]
-mod tests;

@@ -34,5 +34,11 @@ pub const MAX_FOOTPRINTS: usize = 10;
 pub const MAX_OVER_ALL_NODES: u64 = 10_000_000;
 /// Requirements of locks in all.
 pub const MAX_BLOCKS: u64 = 10_000_000;
+/// Points of a temporal network, the origin counted.
+pub const MAX_POINTS: u32 = 1_661;
+/// Constraints of a temporal network.
+pub const MAX_CONSTRAINTS: u32 = 10_000_000;
+/// How large the bound of a constraint may be, in size.
+pub const MAX_BOUND: i128 = 1_000_000_000_000_000_000;
 /// Nodes that a search may expand.
 pub const MAX_BUDGET: u32 = 1_000_000;

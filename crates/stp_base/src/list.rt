@@ -28,6 +28,13 @@ impl<T> List<T> {
         }
     }
 
+    /// The list of a vector's items, in its place.
+    pub fn from_vec(items: Vec<T>) -> List<T>
+        ensures { result ≡ items.items }
+    {
+        List { items }
+    }
+
     /// Puts an item at the end.
     pub fn push(&mut self, item: T) -> Result<(), Memory>
     where

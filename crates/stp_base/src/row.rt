@@ -30,6 +30,15 @@ impl StateRow {
         Ok(StateRow { bits })
     }
 
+    /// The same row once more.
+    pub fn copy(&self, alloc: Global) -> Result<StateRow, Memory>
+        ensures { IfOk result (λ r. r ≡ self.now) }
+    {
+        let mut copy = StateRow::new(alloc, self.len())?;
+        copy.copy_from(self);
+        Ok(copy)
+    }
+
     /// How many atoms the row has.
     pub fn len(&self) -> u32
         ensures { result ≡ length self.now }

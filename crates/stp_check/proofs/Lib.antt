@@ -1,4 +1,10 @@
+mod Carried
+mod Choosing
+mod Coming
+mod Unturned
+mod Judging
+mod Moments
+mod InBoxes
 mod Timing
 mod Missing
 mod Judged
-mod Rules

@@ -7,20 +7,22 @@ use Rattle.stp_happen.specs.Boxes.{PlainBox, IsStrong}
 use Rattle.stp_happen.specs.LeastFailure.{IsFailure}
 use Rattle.stp_happen.specs.Plain.{Executes, AreCalm, AreApart, IsFed}
 use Rattle.stp_happen.proofs.Members.{each_of, all_of, all_pairs, of_mapped, of_mapped_pairs}
-use Rattle.stp_strength.specs.Windows.{Point, OpenSpan, WindowBox, Meet, run_when, entry_at, span_at, IsInWindow, IsChoice, IsProper}
-use Rattle.stp_strength.specs.Facts.{StayApart, StayCalm, IsFedAlways, at_last}
+use Rattle.stp_window.specs.OwnerWindows.{AreWellMade, windows_of}
+use Rattle.stp_window.specs.States.{at_last}
+use Rattle.stp_window.specs.Windows.{Point, OpenSpan, WindowBox, Meet, run_when, entry_at, span_at, IsInWindow, IsChoice, IsProper}
+use Rattle.stp_window.proofs.LastWay.{ordered, started}
+use Rattle.stp_window.proofs.Proper.{windows_proper}
 use Rattle.stp_strength.specs.Choices.{corner, nearest}
+use Rattle.stp_strength.specs.Facts.{StayApart, StayCalm, IsFedAlways}
 use Rattle.stp_strength.specs.Failures.{all_calm, all_pairs_pass, of_steps, stay_apart, stay_calm}
-use Rattle.stp_strength.specs.Steps.{IsWellMade, durations_of, windows_of}
+use Rattle.stp_strength.specs.Vectors.{vector_of}
 use Rattle.stp_strength.proofs.Apart.{AreCalm as AreCalmPoints}
 use Rattle.stp_strength.proofs.Certainty.{before_is_certain, end_is_last}
 use Rattle.stp_strength.proofs.Durations.{durations_of_choice}
 use Rattle.stp_strength.proofs.Gaps.{apart_told, calm_test, calm_facts, each_pair_passes}
-use Rattle.stp_strength.proofs.Proper.{windows_proper}
-use Rattle.stp_strength.proofs.Sound.{ordered, started}
 use Rattle.stp_strength.proofs.Strong.{strong_exactly_where_sound}
-use Rattle.stp_inside.specs.Late.{IsKept, is_on_time}
 use Rattle.stp_check.specs.Choices.{late, near_to}
+use Rattle.stp_check.specs.Late.{IsKept, is_on_time}
 use Rattle.stp_check.specs.Pairs.{AreNotApart, AreNotCalm}
 use Rattle.stp_check.specs.Verdicts.{ExecutesEarliest}
 use Rattle.stp_check.proofs.Timing.{late_is_choice, near_to_is_choice}
@@ -30,7 +32,7 @@ missing b t f = true≢false (sym t ∙ f)
 
 -- ---- a choice at which the run does not execute gives durations at which the box fails
 
-fails_when : (box : PlainBox) → All IsWellMade box.steps → (v : Point → ℕ) → IsChoice (windows_of box) v → (Executes (run_when (windows_of box) v) → ⊥) → IsFailure box (durations_of box v)
+fails_when : (box : PlainBox) → AreWellMade box.owners → (v : Point → ℕ) → IsChoice (windows_of box) v → (Executes (run_when (windows_of box) v) → ⊥) → IsFailure box (vector_of box v)
 fails_when box w v choice fails =
     let d = durations_of_choice box w v choice in
     record { vector = d.vector; fails = λ x. fails (subst Executes d.same x) }
@@ -80,7 +82,7 @@ not_apart : (b : WindowBox) → IsProper b → (v : Point → ℕ) → IsChoice 
 not_apart b proper v choice s o i j m lasts x =
     by_order (v s.end) (v o.end) s.end.low o.end.low s.from o.from lasts
     (started b proper s i).0 (started b proper o j).0 (each_of (λ r. IsInWindow v r.end) b.spans choice.1 s i).0 (each_of (λ r. IsInWindow v r.end) b.spans choice.1 o j).0
-    (of_mapped_pairs (span_at v) (span_at v) AreApart b.spans b.spans x.apart s o i j m.below m.same)
+    (of_mapped_pairs (span_at v) (span_at v) AreApart b.spans b.spans x.apart s o i j (λ (e : s.end.step ≡ o.end.step). let l : s.end.step < o.end.step = m.below in omega arith) m.same)
   where
     by_order : (se oe sl ol sf ot : ℕ) → ((sf ≤ ot) × (ot ≤ se)) ⊎ ((ot ≤ sf) × (sf ≤ oe)) → sf ≤ sl → ot ≤ ol → sl ≤ se → ol ≤ oe → (se < ot) ⊎ (oe < sf) → ⊥
     by_order se oe sl ol sf ot (inl (a, b)) c d e f (inl l) = omega arith
@@ -88,7 +90,7 @@ not_apart b proper v choice s o i j m lasts x =
     by_order se oe sl ol sf ot (inr (a, b)) c d e f (inl l) = omega arith
     by_order se oe sl ol sf ot (inr (a, b)) c d e f (inr l) = omega arith
 
-pub overlap_fails : (box : PlainBox) → All IsWellMade box.steps → (step time : ℕ) → AreNotApart (windows_of box).spans step time → IsFailure box (durations_of box (near_to (step ∷ []) time))
+pub overlap_fails : (box : PlainBox) → AreWellMade box.owners → (step time : ℕ) → AreNotApart (windows_of box).spans step time → IsFailure box (vector_of box (near_to (step ∷ []) time))
 overlap_fails box w step time (s, o, i, first, later, (j, e)) =
     let b = windows_of box in
     let proper = windows_proper box w in
@@ -115,12 +117,12 @@ overlap_fails box w step time (s, o, i, first, later, (j, e)) =
 -- ---- events that meet
 
 calm_or_fails : (b : WindowBox) (v : Point → ℕ) → Executes (run_when b v) → (p q : Point) → Contains b.points p → Contains b.points q → (Meet p q → v p ≡ v q) → StayCalm p q
-calm_or_fails b v x p q i j together l meet = of_mapped_pairs (entry_at v) (entry_at v) AreCalm b.points b.points x.calm p q i j l (together meet)
+calm_or_fails b v x p q i j together l meet = of_mapped_pairs (entry_at v) (entry_at v) AreCalm b.points b.points x.calm p q i j (λ (e : p.step ≡ q.step). omega arith) (together meet)
 
 at_one_moment : (t : ℕ) (p q : Point) → p.low ≤ p.high → q.low ≤ q.high → t ≡ max p.low q.low → Meet p q → nearest t p ≡ nearest t q
 at_one_moment t p q l k e meet = omega arith
 
-pub meeting_fails : (box : PlainBox) → All IsWellMade box.steps → (one other time : ℕ) → AreNotCalm (windows_of box).points one other time → IsFailure box (durations_of box (near_to (one ∷ other ∷ []) time))
+pub meeting_fails : (box : PlainBox) → AreWellMade box.owners → (one other time : ℕ) → AreNotCalm (windows_of box).points one other time → IsFailure box (vector_of box (near_to (one ∷ other ∷ []) time))
 meeting_fails box w one other time found =
     let b = windows_of box in
     let proper = windows_proper box w in
@@ -152,7 +154,7 @@ fed_if_runs b proper calm v choice x = all_of (IsFedAlways b) b.points (λ p i. 
 reached_if_runs : (b : WindowBox) → IsProper b → AreCalmPoints b → (v : Point → ℕ) → IsChoice b v → Executes (run_when b v) → b.goal (at_last b) ≡ true
 reached_if_runs b proper calm v choice x = ap b.goal (sym (end_is_last b proper calm v choice)) ∙ x.reached
 
-pub strong_if_kept : (box : PlainBox) → All IsWellMade box.steps → ExecutesEarliest box → all_pairs_pass stay_apart (windows_of box).spans ≡ true → all_calm (windows_of box) ≡ true → IsKept (windows_of box) → IsStrong box
+pub strong_if_kept : (box : PlainBox) → AreWellMade box.owners → ExecutesEarliest box → all_pairs_pass stay_apart (windows_of box).spans ≡ true → all_calm (windows_of box) ≡ true → IsKept (windows_of box) → IsStrong box
 strong_if_kept box w runs apart calm kept =
     let b = windows_of box in
     let proper = windows_proper box w in

@@ -1,24 +1,28 @@
--- Durations, step by step, and that each choice gives a vector.
+-- Durations, owner by owner, and that each choice gives a vector.
 use Rattle.std.proofs.Common.{◌≡◌, ℕ, ◌+◌, ◌-◌, ◌<◌, ◌≤◌, ◌==◌, Bool, true, false, cond, List, [], ◌∷◌, ◌++◌, drop, length, get_or, All, refl, ap, sym, ◌∙◌, subst, arith, append_assoc}
 use Rattle.std.specs.List.{list_any}
 use Rattle.std.proofs.lemmas.List.Elements.{All-get_or}
 use Rattle.stp_base.specs.declared.ids.StepId.{StepId}
 use Rattle.stp_cond.specs.Atoms.{has}
-use Rattle.stp_happen.specs.declared.boxes.BoxStep.{BoxStep}
-use Rattle.stp_happen.specs.declared.boxes.BoxRun.{BoxRun}
-use Rattle.stp_happen.specs.Boxes.{PlainStep, step_of, steps_of}
-use Rattle.stp_happen.proofs.BoxSteps.{step_here}
+use Rattle.stp_happen.specs.Boxes.{PlainOwner}
+use Rattle.stp_happen.specs.OwnerViews.{plain_owner, plain_owners}
 use Rattle.stp_happen.proofs.Members.{any_alike, all_of, of_mapped}
-use Rattle.stp_strength.specs.Windows.{Point, WindowBox, IsInWindow, IsChoice, IsProper}
+use Rattle.stp_happen.proofs.OwnerSteps.{fact_at}
+use Rattle.stp_window.specs.OwnerWindows.{IsWellMade, end_point}
+use Rattle.stp_window.specs.Windows.{Point, WindowBox, IsInWindow, IsChoice, IsProper}
+use Rattle.stp_window.proofs.LastWay.{ordered, started}
+use Rattle.stp_window.proofs.OwnerLoops.{owner_more}
+use Rattle.stp_window.proofs.WellMade.{boxes_are_well_made}
 use Rattle.stp_strength.specs.Choices.{nearest}
 use Rattle.stp_strength.specs.Failures.{of_steps}
-use Rattle.stp_strength.specs.Steps.{IsWellMade, end_point, durations_from}
-use Rattle.stp_strength.proofs.Sound.{ordered, started, near_window}
-use Rattle.stp_strength.proofs.WellMade.{boxes_are_well_made}
-use Rattle.stp_inside.specs.Late.{numbers_of}
+use Rattle.stp_strength.specs.Vectors.{vector_from}
+use Rattle.stp_strength.proofs.Sound.{near_window}
+use Rattle.stp_check.specs.Choices.{late, near_to, moment_of, GoesUp}
+use Rattle.stp_check.specs.Late.{numbers_of}
+use Rattle.stp_happen.specs.declared.owners.Owner.{Owner}
+use Rattle.stp_happen.specs.declared.owners.OwnedBox.{OwnedBox}
 use Rattle.stp_check.specs.declared.choices.Choice.{Choice}
 use Rattle.stp_check.specs.declared.choices.Choice.TheVariants.{Late, Near}
-use Rattle.stp_check.specs.Choices.{late, near_to, moment_of, GoesUp}
 
 -- ---- whether a step is among these
 
@@ -31,28 +35,25 @@ at_late steps p b e = ap (λ x. cond x p.high p.low) (e ∙ among_is_has steps p
 pub at_near : (steps : List StepId) (t : ℕ) (p : Point) (b : Bool) → b ≡ list_any (λ s. s.0 == p.step) steps → cond b (nearest t p) p.low ≡ near_to (numbers_of steps) t p
 at_near steps t p b e = ap (λ x. cond x (nearest t p) p.low) (e ∙ among_is_has steps p.step)
 
--- ---- step by step
+-- ---- owner by owner
 
--- the first step, and the rest
-first_step : (moment : Point → ℕ) (number : ℕ) (s : PlainStep) (ss : List PlainStep) → durations_from moment number (s ∷ ss) ≡ durations_from moment number (s ∷ []) ++ durations_from moment (number + 1) ss
-first_step moment number s ss = by_test (moment (end_point number s) - s.start) (durations_from moment (number + 1) ss) s.uncertain
+-- the first owner, and the rest
+first_owner : (moment : Point → ℕ) (o : PlainOwner) (os : List PlainOwner) → vector_from moment (o ∷ os) ≡ vector_from moment (o ∷ []) ++ vector_from moment os
+first_owner moment o os = by_test (moment (end_point o) - o.start) (vector_from moment os) o.uncertain
   where
     by_test : (x : ℕ) (xs : List ℕ) (b : Bool) → cond b (x ∷ xs) xs ≡ cond b (x ∷ []) [] ++ xs
     by_test x xs true = refl
     by_test x xs false = refl
 
-pub one_more : (steps : List BoxStep) (i : ℕ) (s : BoxStep) → i < length steps → s ≡ get_or steps i s → (moment : Point → ℕ) (number : ℕ) (ds new whole : List ℕ) →
-    new ≡ ds ++ durations_from moment number (step_of s ∷ []) → ds ++ durations_from moment number (steps_of (drop i steps)) ≡ whole → new ++ durations_from moment (number + 1) (steps_of (drop (i + 1) steps)) ≡ whole
-one_more steps i s l e moment number ds new whole more all =
-    ap (λ ns. ns ++ durations_from moment (number + 1) (steps_of (drop (i + 1) steps))) more
-    ∙ (append_assoc ds (durations_from moment number (step_of s ∷ [])) (durations_from moment (number + 1) (steps_of (drop (i + 1) steps)))
-    ∙ (ap (λ ns. ds ++ ns) (sym (first_step moment number (step_of s) (steps_of (drop (i + 1) steps)))) ∙ (ap (λ ss. ds ++ durations_from moment number ss) (sym (step_here steps i s l e)) ∙ all)))
+pub one_more : (owners : List Owner) (i : ℕ) (o : Owner) → i < length owners → o ≡ get_or owners i o → (moment : Point → ℕ) (ds new whole : List ℕ) →
+    new ≡ ds ++ vector_from moment (plain_owner o ∷ []) → ds ++ vector_from moment (plain_owners (drop i owners)) ≡ whole → new ++ vector_from moment (plain_owners (drop (i + 1) owners)) ≡ whole
+one_more owners i o l e moment = owner_more (λ p. vector_from moment (p ∷ [])) (vector_from moment) (first_owner moment) owners i o l e
 
-pub step_goes_up : (steps : List BoxStep) (i : ℕ) (s : BoxStep) → i < length steps → s ≡ get_or steps i s → All GoesUp steps → GoesUp s
-step_goes_up steps i s l e h = subst GoesUp (sym e) (All-get_or GoesUp steps i s l h)
+pub owner_goes_up : (owners : List Owner) (i : ℕ) (o : Owner) → i < length owners → o ≡ get_or owners i o → All GoesUp owners → GoesUp o
+owner_goes_up owners i o l e h = fact_at GoesUp owners i o l e h
 
-pub box_goes_up : (boxed : BoxRun) → All GoesUp boxed.steps
-box_goes_up boxed = all_of GoesUp boxed.steps (λ s i. let m = of_mapped step_of IsWellMade boxed.steps (boxes_are_well_made boxed) s i in (m.up, m.ordered))
+pub box_goes_up : (boxed : OwnedBox) → All GoesUp boxed.owners
+box_goes_up boxed = all_of GoesUp boxed.owners (λ o i. let m = of_mapped plain_owner IsWellMade boxed.owners (boxes_are_well_made boxed).each o i in (m.up, m.ordered))
 
 -- ---- each choice is one of the windows
 

@@ -1,10 +1,10 @@
--- When the uncertain steps of a box end.
+-- When the uncertain owners of a box end.
 use Rattle.std.specs.Prelude.{ℕ, ◌≤◌, if◌then◌else◌, List}
-use Rattle.stp_happen.specs.declared.boxes.BoxStep.{BoxStep}
-use Rattle.stp_strength.specs.Windows.{Point}
+use Rattle.stp_happen.specs.declared.owners.Owner.{Owner}
+use Rattle.stp_window.specs.Windows.{Point}
 use Rattle.stp_strength.specs.Choices.{nearest}
 use Rattle.stp_strength.specs.Failures.{of_steps}
-use Rattle.stp_inside.specs.Late.{numbers_of}
+use Rattle.stp_check.specs.Late.{numbers_of}
 use Rattle.stp_check.specs.declared.choices.Choice.{Choice}
 use Rattle.stp_check.specs.declared.choices.Choice.TheVariants.{Late, Near}
 
@@ -21,6 +21,6 @@ abbrev pub moment_of : Choice → Point → ℕ
 moment_of (Late steps) = late (numbers_of steps.now)
 moment_of (Near steps t) = near_to (numbers_of steps.now) t
 
--- a step has its start and the ends of its window in order
-abbrev pub GoesUp : BoxStep → Type 0
-GoesUp s = (s.start ≤ s.low) × (s.low ≤ s.high)
+-- an owner has its start and its bounds in order
+abbrev pub GoesUp : Owner → Type 0
+GoesUp o = (o.start ≤ o.low) × (o.low ≤ o.high)

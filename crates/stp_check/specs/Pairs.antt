@@ -1,6 +1,6 @@
 -- Steps of one action that may run at one moment, and events that may meet and interfere.
 use Rattle.std.specs.Prelude.{◌≡◌, ℕ, nat_le, false, if◌then◌else◌, max, List, Contains}
-use Rattle.stp_strength.specs.Windows.{Point, OpenSpan}
+use Rattle.stp_window.specs.Windows.{Point, OpenSpan}
 use Rattle.stp_strength.specs.Failures.{stay_apart, stay_calm}
 
 -- a span may run at one moment with another one of its action

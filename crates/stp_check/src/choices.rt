@@ -1,15 +1,18 @@
 //! Durations of a box at which some steps end late, or near to a moment, and the others as soon as they can.
 
-ghost use Rattle.std.specs.Prelude.{◌≡◌, ◌≤◌, ◌++◌, ◌∷◌, [], ◌==◌, max, min, length, All, IfOk, OnOk};
+ghost use Rattle.std.specs.Prelude.{◌≡◌, ◌≤◌, ◌++◌, ◌∷◌, [], ◌==◌, max, min, All, IfOk, OnOk};
 ghost use Rattle.std.specs.List.{list_any};
-ghost use Rattle.stp_happen.specs.Boxes.{step_of, steps_of, plain_box, IsVector};
-ghost use Rattle.stp_strength.specs.Steps.{end_point, durations_from, durations_of};
+ghost use Rattle.stp_happen.specs.Boxes.{IsVector};
+ghost use Rattle.stp_happen.specs.OwnedViews.{plain_owned};
+ghost use Rattle.stp_happen.specs.OwnerViews.{plain_owner, plain_owners};
+ghost use Rattle.stp_window.specs.OwnerWindows.{end_point};
+ghost use Rattle.stp_strength.specs.Vectors.{vector_from, vector_of};
 ghost use Rattle.stp_check.specs.Choices.{late, near_to, moment_of, GoesUp};
-ghost use Rattle.stp_inside.specs.Late.{numbers_of};
+ghost use Rattle.stp_check.specs.Late.{numbers_of};
 
 use std::alloc::Global;
 use stp_base::{List, Memory, StepId};
-use stp_happen::{BoxRun, BoxStep};
+use stp_happen::{OwnedBox, Owner};
 
 /// When the uncertain steps end.
 #[derive(Clone, Copy)]
@@ -34,86 +37,82 @@ fn near(low: u128, high: u128, time: u128) -> u128
     low.max(high.min(time))
 }
 
-/// When a step ends that is as late as it can be if it is among these, and else as soon.
-fn late_end(steps: &[StepId], step: &BoxStep<'_>, number: u32) -> u128
-    requires { step.now.low ≤ step.now.high }
-    ensures moment { result ≡ late (numbers_of steps.now) (end_point number (step_of step.now)) }
-    ensures within { step.now.low ≤ result }
+/// When an owner ends that is as late as it can be if it is among these, and else as soon.
+fn late_end(steps: &[StepId], owner: &Owner<'_>) -> u128
+    requires { owner.now.low ≤ owner.now.high }
+    ensures moment { result ≡ late (numbers_of steps.now) (end_point (plain_owner owner.now)) }
+    ensures within { owner.now.low ≤ result }
 {
-    if is_among(steps, number) {
-        step.high
+    if is_among(steps, owner.number) {
+        owner.high
     } else {
-        step.low
+        owner.low
     }
 }
 
-/// When a step ends that is as near to a moment as it can be if it is among these, and else as soon as it can be.
-fn near_end(steps: &[StepId], time: u128, step: &BoxStep<'_>, number: u32) -> u128
-    ensures moment { result ≡ near_to (numbers_of steps.now) time (end_point number (step_of step.now)) }
-    ensures within { step.now.low ≤ result }
+/// When an owner ends that is as near to a moment as it can be if it is among these, and else as soon as it can be.
+fn near_end(steps: &[StepId], time: u128, owner: &Owner<'_>) -> u128
+    ensures moment { result ≡ near_to (numbers_of steps.now) time (end_point (plain_owner owner.now)) }
+    ensures within { owner.now.low ≤ result }
 {
-    if is_among(steps, number) {
-        near(step.low, step.high, time)
+    if is_among(steps, owner.number) {
+        near(owner.low, owner.high, time)
     } else {
-        step.low
+        owner.low
     }
 }
 
-/// When a step with this number ends.
-fn end_at(choice: Choice<'_>, step: &BoxStep<'_>, number: u32) -> u128
-    requires { step.now.low ≤ step.now.high }
-    ensures moment { result ≡ moment_of choice.entry (end_point number (step_of step.now)) }
-    ensures within { step.now.low ≤ result }
+/// When an owner ends.
+fn end_at(choice: Choice<'_>, owner: &Owner<'_>) -> u128
+    requires { owner.now.low ≤ owner.now.high }
+    ensures moment { result ≡ moment_of choice.entry (end_point (plain_owner owner.now)) }
+    ensures within { owner.now.low ≤ result }
 {
     match choice {
-        Choice::Late(steps) => late_end(steps, step, number),
-        Choice::Near(steps, time) => near_end(steps, time, step, number),
+        Choice::Late(steps) => late_end(steps, owner),
+        Choice::Near(steps, time) => near_end(steps, time, owner),
     }
 }
 
-/// Puts the duration of a step at the end of a list if the step is uncertain.
+/// Puts the duration of an owner at the end of a list if the owner is uncertain.
 fn push_duration(
     durations: &mut List<u128>,
     choice: Choice<'_>,
-    step: &BoxStep<'_>,
-    number: u32,
+    owner: &Owner<'_>,
 ) -> Result<(), Memory>
-    requires { GoesUp step.now }
-    ensures { OnOk result (durations.new ≡ durations.old ++ durations_from (moment_of choice.entry) number (step_of step.now ∷ [])) }
+    requires { GoesUp owner.now }
+    ensures { OnOk result (durations.new ≡ durations.old ++ vector_from (moment_of choice.entry) (plain_owner owner.now ∷ [])) }
 {
-    if step.uncertain {
-        durations.push(end_at(choice, step, number) - step.start)?;
+    if owner.uncertain {
+        durations.push(end_at(choice, owner) - owner.start)?;
     }
     Ok(())
 }
 
-/// The durations of steps, which are numbered from 1 on.
+/// The durations of owners.
 fn durations_at(
     alloc: Global,
-    steps: &[BoxStep<'_>],
+    owners: &[Owner<'_>],
     choice: Choice<'_>,
 ) -> Result<List<u128>, Memory>
-    requires few { length steps.now ≤ 500 }
-    requires up { All GoesUp steps.now }
-    ensures { IfOk result (λ r. r ≡ durations_from (moment_of choice.entry) 1 (steps_of steps.now)) }
+    requires { All GoesUp owners.now }
+    ensures { IfOk result (λ r. r ≡ vector_from (moment_of choice.entry) (plain_owners owners.now)) }
 {
     let mut durations = List::new(alloc);
-    let mut number = 0u32;
-    for step in steps {
-        number += 1;
-        push_duration(&mut durations, choice, step, number)?;
+    for owner in owners {
+        push_duration(&mut durations, choice, owner)?;
     }
     Ok(durations)
 }
 
-/// The durations at which the uncertain steps of a box end as chosen, in order.
+/// The durations at which the uncertain owners of a box end as chosen, in order.
 pub fn durations(
     alloc: Global,
-    boxed: &BoxRun<'_>,
+    boxed: &OwnedBox<'_>,
     choice: Choice<'_>,
 ) -> Result<List<u128>, Memory>
-    ensures chosen { IfOk result (λ r. r ≡ durations_of (plain_box boxed.now) (moment_of choice.entry)) }
-    ensures vector { IfOk result (λ r. IsVector (plain_box boxed.now).steps r) }
+    ensures chosen { IfOk result (λ r. r ≡ vector_of (plain_owned boxed.now) (moment_of choice.entry)) }
+    ensures vector { IfOk result (λ r. IsVector (plain_owned boxed.now).owners r) }
 {
-    durations_at(alloc, boxed.steps.as_slice(), choice)
+    durations_at(alloc, boxed.owners.as_slice(), choice)
 }

@@ -2,12 +2,13 @@
 
 ghost use Rattle.std.specs.Prelude.{◌≡◌, true, MatchOption};
 ghost use Rattle.std.specs.List.{list_all};
+ghost use Rattle.stp_window.specs.Views.{point_of, points_of};
 ghost use Rattle.stp_strength.specs.Failures.{all_pairs_pass, stay_calm as stay_calm_lem};
-ghost use Rattle.stp_strength.specs.Views.{point_of, points_of};
 ghost use Rattle.stp_check.specs.Pairs.{IsNotCalmWith, AreNotCalm};
 
 use stp_base::StepId;
-use stp_strength::{Window, stay_calm};
+use stp_strength::stay_calm;
+use stp_window::Window;
 
 /// Two steps, and a moment at which both may have an event.
 #[derive(Clone, Copy)]

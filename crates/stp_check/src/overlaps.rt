@@ -2,12 +2,13 @@
 
 ghost use Rattle.std.specs.Prelude.{◌≡◌, nat_le, if◌then◌else◌, max, true, MatchOption};
 ghost use Rattle.std.specs.List.{list_all};
+ghost use Rattle.stp_window.specs.Views.{span_of, spans_of};
 ghost use Rattle.stp_strength.specs.Failures.{all_pairs_pass, stay_apart as stay_apart_lem};
-ghost use Rattle.stp_strength.specs.Views.{span_of, spans_of};
 ghost use Rattle.stp_check.specs.Pairs.{IsNotApartFrom, AreNotApart};
 
 use stp_base::StepId;
-use stp_strength::{NumberedStep, stay_apart};
+use stp_strength::stay_apart;
+use stp_window::Lasting;
 
 /// A step that may still run when another one of its action starts, and when that is.
 #[derive(Clone, Copy)]
@@ -17,15 +18,12 @@ pub(crate) struct Overlap {
 }
 
 /// The first of these steps that is of the same action as one and may run at one moment with it.
-fn first_with<'s, 'a>(
-    one: &NumberedStep<'a>,
-    steps: &'s [NumberedStep<'a>],
-) -> Option<&'s NumberedStep<'a>>
+fn first_with<'s, 'a>(one: &Lasting<'a>, spans: &'s [Lasting<'a>]) -> Option<&'s Lasting<'a>>
     ensures { MatchOption result
-        (list_all (stay_apart_lem (span_of one.now)) (spans_of steps.now) ≡ true)
-        (λ other. IsNotApartFrom (span_of one.now) (spans_of steps.now) (span_of other.now)) }
+        (list_all (stay_apart_lem (span_of one.now)) (spans_of spans.now) ≡ true)
+        (λ other. IsNotApartFrom (span_of one.now) (spans_of spans.now) (span_of other.now)) }
 {
-    for other in steps {
+    for other in spans {
         if !stay_apart(one, other) {
             return Some(other);
         }
@@ -34,31 +32,31 @@ fn first_with<'s, 'a>(
 }
 
 /// The one of two steps that starts first, or the one where both start at once, and when the other starts.
-fn overlap_of(one: &NumberedStep<'_>, other: &NumberedStep<'_>) -> Overlap
-    ensures step { result.step.0 ≡ (if nat_le one.now.step.start other.now.step.start then one.now.number else other.now.number) }
-    ensures time { result.time ≡ max one.now.step.start other.now.step.start }
+fn overlap_of(one: &Lasting<'_>, other: &Lasting<'_>) -> Overlap
+    ensures step { result.step.0 ≡ (if nat_le one.now.owner.start other.now.owner.start then one.now.owner.number else other.now.owner.number) }
+    ensures time { result.time ≡ max one.now.owner.start other.now.owner.start }
 {
-    if one.step.start <= other.step.start {
+    if one.owner.start <= other.owner.start {
         Overlap {
-            step: StepId(one.number),
-            time: other.step.start,
+            step: StepId(one.owner.number),
+            time: other.owner.start,
         }
     } else {
         Overlap {
-            step: StepId(other.number),
-            time: one.step.start,
+            step: StepId(other.owner.number),
+            time: one.owner.start,
         }
     }
 }
 
 /// The overlap of the first two of these steps that are of one action and may run at one moment.
-pub(crate) fn first_overlap(steps: &[NumberedStep<'_>]) -> Option<Overlap>
+pub(crate) fn first_overlap(spans: &[Lasting<'_>]) -> Option<Overlap>
     ensures { MatchOption result
-        (all_pairs_pass stay_apart_lem (spans_of steps.now) ≡ true)
-        (λ found. AreNotApart (spans_of steps.now) found.step.0 found.time) }
+        (all_pairs_pass stay_apart_lem (spans_of spans.now) ≡ true)
+        (λ found. AreNotApart (spans_of spans.now) found.step.0 found.time) }
 {
-    for one in steps {
-        if let Some(other) = first_with(one, steps) {
+    for one in spans {
+        if let Some(other) = first_with(one, spans) {
             return Some(overlap_of(one, other));
         }
     }

@@ -1,6 +1,8 @@
-mod Loading
+mod Loads
 mod Writing
 mod Casing
 mod Verdicts
 mod Vectors
 mod Replays
+mod Headlines
+mod CommandRows

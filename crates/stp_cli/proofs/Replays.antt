@@ -12,20 +12,22 @@ use Rattle.stp_happen.specs.Plain.{PlainRun, Executes}
 use Rattle.stp_happen.specs.Faults.{IsFirstFault}
 use Rattle.stp_happen.specs.Orders.{IsInSomeOrder}
 use Rattle.stp_happen.specs.Runs.{plain_run}
-use Rattle.stp_happen.specs.Boxes.{PlainBox, IsVector, run_under, finer_box, finer_step, plain_box}
+use Rattle.stp_happen.specs.Owners.{finer_step}
+use Rattle.stp_happen.specs.BoxViews.{plain_box}
+use Rattle.stp_happen.specs.Boxes.{PlainBox, IsVector, run_under, finer_box}
 use Rattle.stp_happen.specs.declared.run.Run.{Run}
 use Rattle.stp_happen.specs.declared.fault.Fault.{Fault}
 use Rattle.stp_report.specs.declared.answer.Answer.{Answer}
 use Rattle.stp_report.specs.declared.answer.Answer.TheVariants as answers
 use Rattle.stp_report.specs.Bounds.{IsFaultTime}
 use Rattle.stp_report.proofs.FaultTimes.{fault_times}
-use Rattle.stp_timing.specs.declared.timed.TimedStep.{TimedStep}
-use Rattle.stp_timing.specs.Lists.{durations_in}
-use Rattle.stp_timing.specs.Timed.{base_grid, count_of, lies_on, plain_timed, is_lawful_timed}
-use Rattle.stp_timing.specs.Fitting.{judge_list, grid_with}
-use Rattle.stp_timing.proofs.Bounds.{Lies}
-use Rattle.stp_timing.proofs.TimedSteps.{base_pos, steps_lie}
-use Rattle.stp_timing.proofs.Fits.{common, common_positive, met_lie}
+use Rattle.stp_exec.specs.declared.timed_step.TimedStep.{TimedStep}
+use Rattle.stp_exec.specs.Lists.{durations_in}
+use Rattle.stp_exec.specs.Timed.{base_grid, count_of, lies_on, plain_timed, is_lawful_timed}
+use Rattle.stp_exec.specs.Fitting.{judge_list, grid_with}
+use Rattle.stp_exec.proofs.Bounds.{Lies}
+use Rattle.stp_exec.proofs.TimedSteps.{base_pos, steps_lie}
+use Rattle.stp_exec.proofs.Fits.{common, common_positive, met_lie}
 use Rattle.stp_exec.specs.Plans.{atoms_of_plan}
 use Rattle.stp_cli.specs.declared.case.Case.{Case}
 use Rattle.stp_cli.specs.Case.{PlainCase, times_of, grid_of, box_of}
@@ -49,9 +51,14 @@ pub run_with : (grid : ℕ) (box : PlainBox) (durations : List ℕ) (run : Run) 
     → Executes (plain_run run) ↔ Executes (run_under box durations) → ((f : Fault) → IsFirstFault (plain_run run) f ↔ IsFirstFault (run_under box durations) f)
     → IsNone fault ↔ Executes (plain_run run) → IfSome fault (IsFirstFault (plain_run run))
     → (shown : Bor Run) → shown.now ≡ run → (answer : Answer) → answer ≡ answers.Replay shown fault → IsRunWith grid box durations answer
-run_with grid box durations run fault g order same faults none first shown is answer e =
-    subst (IsRunWith grid box durations) (sym e)
-    (ap (λ (r : Run). r.grid) is ∙ g, subst (λ (r : Run). IsInSomeOrder (plain_run r) (run_under box durations)) (sym is) order, judged_by (plain_run run) (run_under box durations) fault same faults none first)
+run_with grid box durations run fault g order same faults none first shown is answer e = record {
+  run = shown;
+  fault = fault;
+  on_grid = ap (λ (r : Run). r.grid) is ∙ g;
+  same = subst (λ (r : Run). IsInSomeOrder (plain_run r) (run_under box durations)) (sym is) order;
+  judged = judged_by (plain_run run) (run_under box durations) fault same faults none first;
+  answered = e;
+}
 
 -- ---- the grid
 
@@ -94,14 +101,14 @@ module _ (c : PlainCase) (times : List TimedStep) (are : map plain_timed times �
   all_lie : All (Lies (factor * grid_of c)) (map value_of ds)
   all_lie = subst (λ n. All (Lies n) (map value_of ds)) (sym factor_times) (All-map (Lies whole) value_of ds (met_lie (grid_of c) whole ds grid_pos refl))
 
-  pub fitted_vector : All (λ (t : TimedStep). is_lawful_timed (plain_timed t) ≡ true) times → judge_list (times_of c) (map value_of ds) ≡ None → IsVector (finer_box factor (box_of c)).steps (map (count_of whole) (map value_of ds))
+  pub fitted_vector : All (λ (t : TimedStep). is_lawful_timed (plain_timed t) ≡ true) times → judge_list (times_of c) (map value_of ds) ≡ None → IsVector (finer_box factor (box_of c)).owners (map (count_of whole) (map value_of ds))
   fitted_vector lawful judged =
       let well = judged_well (times_of c) (map value_of ds) judged in
-      subst (λ n. IsVector (finer_box factor (box_of c)).steps (map (count_of n) (map value_of ds))) factor_times
-      (fitting factor (grid_of c) factor_pos grid_pos c.task (atoms_of_plan c.task c.steps) c.steps c.steps 1 (map value_of ds) (on_grid lawful) all_lie well.0 well.1)
+      subst (λ n. IsVector (finer_box factor (box_of c)).owners (map (count_of n) (map value_of ds))) factor_times
+      (fitting factor (grid_of c) factor_pos grid_pos c.problem (atoms_of_plan c.problem c.steps) c.steps (map value_of ds) (on_grid lawful) all_lie well.0 well.1)
 
   pub replayed : (text : List ℕ) (answer : Answer) → list_read (durations_in text) ≡ Ok (map value_of ds) → judge_list (times_of c) (map value_of ds) ≡ None → IsRunWith whole (finer_box factor (box_of c)) (map (count_of whole) (map value_of ds)) answer → IsReplayedCase text c answer
-  replayed text answer read judged run = rw (read, judged) (factor, times_factor, run)
+  replayed text answer read judged run = rw (read, judged) (record { factor = factor; finer = times_factor; shown = run })
 
 -- ---- the same of a case in an arena
 
@@ -132,10 +139,10 @@ module _ (made : Case) (c : PlainCase) (s : StandsFor made c) where
       same_counts : map (count_of grid) (map value_of ds) ≡ map (count_of (whole c made.times.items s.times ds)) (map value_of ds)
       same_counts = ap (λ n. map (count_of n) (map value_of ds)) grid_whole
 
-      pub made_vector : (durations : List ℕ) → durations ≡ map (count_of grid) (map value_of ds) → IsVector (finer_box (grid / made.boxed.grid) (plain_box made.boxed)).steps durations
+      pub made_vector : (durations : List ℕ) → durations ≡ map (count_of grid) (map value_of ds) → IsVector (finer_box (grid / made.boxed.grid) (plain_box made.boxed)).owners durations
       made_vector durations are =
-          subst (λ (b : PlainBox). IsVector b.steps durations) (sym same_box)
-          (subst (IsVector (finer_box (factor c made.times.items s.times ds) (box_of c)).steps) (sym (are ∙ same_counts)) (fitted_vector c made.times.items s.times ds s.lawful judged_c))
+          subst (λ (b : PlainBox). IsVector b.owners durations) (sym same_box)
+          (subst (IsVector (finer_box (factor c made.times.items s.times ds) (box_of c)).owners) (sym (are ∙ same_counts)) (fitted_vector c made.times.items s.times ds s.lawful judged_c))
 
       pub made_replayed : (text durations : List ℕ) (answer : Answer) → list_read (durations_in text) ≡ Ok (map value_of ds) → durations ≡ map (count_of grid) (map value_of ds)
           → IsRunWith (made.boxed.grid * (grid / made.boxed.grid)) (finer_box (grid / made.boxed.grid) (plain_box made.boxed)) durations answer → IsReplayedCase text c answer

@@ -3,22 +3,24 @@ use Rattle.std.proofs.Common.{◌≡◌, ℕ, ◌+◌, ◌*◌, ◌<◌, ◌≤�
 use Rattle.std.specs.Prelude.{All, slice_index}
 use Rattle.std.specs.List.{list_all}
 use Rattle.std.proofs.lemmas.Bool.Decides.{nat_tests}
+use Rattle.std.proofs.lemmas.List.{append-nil}
 use Rattle.std.proofs.lemmas.List.Elements.{All-head, All-tail, All-map}
 use Rattle.std.proofs.Math.Nat.{dvd-mul_left_of_dvd}
 use Rattle.stp_frac.specs.Divisors.{divides}
-use Rattle.stp_frac.specs.Fractions.{Fraction}
+use Rattle.stp_frac.specs.Fractions.{Fraction, is_less, is_at_most, zero}
 use Rattle.stp_frac.proofs.Divisors.{divides_from, divides_to, left_true, right_true}
-use Rattle.stp_offence.specs.declared.code.Code.{Code}
+use Rattle.stp_refusal.specs.declared.code.Code.{Code}
 use Rattle.stp_schema.specs.Views.{PlainProblem}
-use Rattle.stp_atoms.specs.Atoms.{Atom}
+use Rattle.stp_tables.specs.Atoms.{Atom}
 use Rattle.stp_ground.specs.Chosen.{PlainChosen}
-use Rattle.stp_value.specs.Durations.{is_less, is_at_most, zero}
-use Rattle.stp_timing.specs.Held.{PlainHeld, Instant, Fixed, Open, is_within, is_lawful_held}
-use Rattle.stp_timing.specs.Timed.{PlainTimed, count_of, lies_on, moments_of, held_denominators, is_lawful_timed}
-use Rattle.stp_timing.specs.Fitting.{open_bounds, held_bounds, outside_from, judge_list, grid_with, unless_outside, unless_fine}
-use Rattle.stp_timing.proofs.Bounds.{Lies, HeldLies, bottom_pos, less_on, ends_ordered, first_lies, second_lies}
-use Rattle.stp_timing.proofs.LeastGrids.{finer_grids_keep_moments}
-use Rattle.stp_happen.specs.Boxes.{PlainStep, IsVector, IsWithin, finer_step}
+use Rattle.stp_exec.specs.Held.{PlainHeld, Instant, Fixed, Open, is_within, is_lawful_held}
+use Rattle.stp_exec.specs.Timed.{PlainTimed, count_of, lies_on, moments_of, held_denominators, is_lawful_timed}
+use Rattle.stp_exec.specs.Fitting.{open_bounds, held_bounds, outside_from, judge_list, grid_with, unless_outside, unless_fine}
+use Rattle.stp_exec.proofs.Bounds.{Lies, HeldLies, bottom_pos, less_on, ends_ordered, first_lies, second_lies}
+use Rattle.stp_exec.proofs.LeastGrids.{finer_grids_keep_moments}
+use Rattle.stp_happen.specs.Owners.{PlainStep, step_owner, step_owners, owners_of, finer_step}
+use Rattle.stp_happen.proofs.OwnerLists.{owners_are_finer}
+use Rattle.stp_happen.specs.Boxes.{PlainOwner, IsVector, IsWithin, finer_owner}
 use Rattle.stp_exec.specs.Placed.{PlainPlaced, times_of}
 use Rattle.stp_exec.specs.Plans.{step_in}
 
@@ -60,8 +62,8 @@ module _ (k g : ℕ) (pk : 0 < k) (pg : 0 < g) where
     placed chosen start held = record { chosen = chosen; timed = record { start = start; held = held } }
 
     -- a duration between the bounds of an open step
-    within : (chosen : PlainChosen) (start low high d : Fraction) (ds : List ℕ) → IsOn g (record { start = start; held = Open low high }) → Lies fine d → is_within low high d ≡ true → IsWithin (made (placed chosen start (Open low high))) (count_of fine d ∷ ds)
-    within chosen start low high d ds (lies, lawful) ld inside = λ chosen_open.
+    within : (chosen : PlainChosen) (start low high d : Fraction) (ds : List ℕ) → IsOn g (record { start = start; held = Open low high }) → Lies fine d → is_within low high d ≡ true → (number : ℕ) → IsWithin (step_owner number (made (placed chosen start (Open low high)))) (count_of fine d ∷ ds)
+    within chosen start low high d ds (lies, lawful) ld inside number = λ chosen_open.
         let t : PlainTimed = record { start = start; held = Open low high } in
         let m = finer_grids_keep_moments t k g pg lies in
         let e0 : count_of fine start ≡ k * count_of g start = ap (λ x. x.start) m in
@@ -80,27 +82,41 @@ module _ (k g : ℕ) (pk : 0 < k) (pg : 0 < g) where
         (omega arith, omega (arith, e0, e1, c1), omega (arith, e0, e2, c2))
 
     abbrev Claim : List PlainPlaced → Type 0
-    Claim steps = (n : ℕ) (ds : List Fraction) → All (IsOn g) (times_of steps) → All (Lies fine) ds → length ds ≡ length (open_bounds (times_of steps)) → outside_from n (open_bounds (times_of steps)) ds ≡ None → IsVector (map (finer_step k) (map (step_in p table g all) steps)) (map (count_of fine) ds)
+    Claim steps = (number n : ℕ) (ds : List Fraction) → All (IsOn g) (times_of steps) → All (Lies fine) ds → length ds ≡ length (open_bounds (times_of steps)) → outside_from n (open_bounds (times_of steps)) ds ≡ None → IsVector (step_owners number (map made steps)) (map (count_of fine) ds)
 
     one_more : (chosen : PlainChosen) (start : Fraction) (held : PlainHeld) (steps : List PlainPlaced) → Claim steps → Claim (placed chosen start held ∷ steps)
-    one_more chosen start Instant steps rest n ds on lie even inside =
-        ((λ chosen_open. absurd (true≢false (sym chosen_open))), rest n ds (All-tail (IsOn g) _ (times_of steps) on) lie even inside)
-    one_more chosen start (Fixed duration) steps rest n ds on lie even inside =
-        ((λ chosen_open. absurd (true≢false (sym chosen_open))), rest n ds (All-tail (IsOn g) _ (times_of steps) on) lie even inside)
-    one_more chosen start (Open low high) steps rest n [] on lie even inside = absurd (omega (arith, even))
-    one_more chosen start (Open low high) steps rest n (d ∷ ds) on lie even inside =
+    one_more chosen start Instant steps rest number n ds on lie even inside =
+        ((λ chosen_open. absurd (true≢false (sym chosen_open))), rest (number + 1) n ds (All-tail (IsOn g) _ (times_of steps) on) lie even inside)
+    one_more chosen start (Fixed duration) steps rest number n ds on lie even inside =
+        ((λ chosen_open. absurd (true≢false (sym chosen_open))), rest (number + 1) n ds (All-tail (IsOn g) _ (times_of steps) on) lie even inside)
+    one_more chosen start (Open low high) steps rest number n [] on lie even inside = absurd (omega (arith, even))
+    one_more chosen start (Open low high) steps rest number n (d ∷ ds) on lie even inside =
         let split = split_inside (is_within low high d) n (outside_from (n + 1) (open_bounds (times_of steps)) ds) inside in (
-          within chosen start low high d (map (count_of fine) ds) (All-head (IsOn g) (record { start = start; held = Open low high }) (times_of steps) on) (All-head (Lies fine) d ds lie) split.0,
-          rest (n + 1) ds (All-tail (IsOn g) (record { start = start; held = Open low high }) (times_of steps) on) (All-tail (Lies fine) d ds lie) (omega (arith, even)) split.1,
+          within chosen start low high d (map (count_of fine) ds) (All-head (IsOn g) (record { start = start; held = Open low high }) (times_of steps) on) (All-head (Lies fine) d ds lie) split.0 number,
+          rest (number + 1) (n + 1) ds (All-tail (IsOn g) (record { start = start; held = Open low high }) (times_of steps) on) (All-tail (Lies fine) d ds lie) (omega (arith, even)) split.1,
         )
 
     no_more : Claim []
-    no_more n [] on lie even inside = refl
-    no_more n (d ∷ ds) on lie even inside = absurd (omega (arith, even))
+    no_more number n [] on lie even inside = refl
+    no_more number n (d ∷ ds) on lie even inside = absurd (omega (arith, even))
 
-    pub fitting : (steps : List PlainPlaced) → Claim steps
-    fitting [] = no_more
-    fitting (s ∷ steps) = one_more s.chosen s.timed.start s.timed.held steps (fitting steps)
+    fitting_from : (steps : List PlainPlaced) → Claim steps
+    fitting_from [] = no_more
+    fitting_from (s ∷ steps) = one_more s.chosen s.timed.start s.timed.held steps (fitting_from steps)
+
+    finer_steps : (steps : List PlainPlaced) → map made steps ≡ map (finer_step k) (map (step_in p table g all) steps)
+    finer_steps [] = refl
+    finer_steps (s ∷ steps) = ap (λ ss. made s ∷ ss) (finer_steps steps)
+
+    -- the owners of finer steps, of a box without events of the environment, are the finer owners
+    finer_owners : step_owners 1 (map made all) ≡ map (finer_owner k) (owners_of (map (step_in p table g all) all) [])
+    finer_owners =
+        ap (step_owners 1) (finer_steps all)
+        ∙ sym (append-nil (step_owners 1 (map (finer_step k) (map (step_in p table g all) all))))
+        ∙ owners_are_finer k (map (step_in p table g all) all) []
+
+    pub fitting : (ds : List Fraction) → All (IsOn g) (times_of all) → All (Lies fine) ds → length ds ≡ length (open_bounds (times_of all)) → outside_from 1 (open_bounds (times_of all)) ds ≡ None → IsVector (map (finer_owner k) (owners_of (map (step_in p table g all) all) [])) (map (count_of fine) ds)
+    fitting ds on lie even inside = subst (λ (os : List PlainOwner). IsVector os (map (count_of fine) ds)) finer_owners (fitting_from all 1 1 ds on lie even inside)
 
 -- what it means that a list is judged to fit
 split_judged : (b : Bool) (o : Option ℕ) (fine : Option (Code × ℕ)) (other : Code × ℕ) → (if b then unless_outside o fine else Some other) ≡ None → (b ≡ true) × (o ≡ None)

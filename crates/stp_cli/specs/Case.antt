@@ -6,25 +6,26 @@ use Rattle.stp_domain.specs.Reading.{domain_or_refusal}
 use Rattle.stp_problem.specs.Reading.{problem_or_refusal}
 use Rattle.stp_plan.specs.Plans.{plan_of}
 use Rattle.stp_happen.specs.Boxes.{PlainBox}
-use Rattle.stp_timing.specs.Timed.{PlainTimed}
+use Rattle.stp_exec.specs.Timed.{PlainTimed}
 use Rattle.stp_exec.specs.Placed as places
 use Rattle.stp_exec.specs.Placed.{PlainPlaced}
 use Rattle.stp_exec.specs.Plans.{grid_of_plan, box_of_plan}
 use Rattle.stp_exec.specs.Boxed.{placed_or_fault}
 use Rattle.stp_report.specs.declared.answer.FileName.TheVariants as files
-use Rattle.stp_cli.specs.Refusals.{◌>>=◌, or_refusal, text_refusal, read_refusal, plan_refusal, exec_refusal}
+use Rattle.stp_base.specs.Results.{◌>>=◌}
+use Rattle.stp_cli.specs.Refusals.{or_refusal, text_refusal, read_refusal, plan_refusal, exec_refusal}
 use Rattle.stp_cli.specs.declared.refusal.Refusal.{Refusal}
 
 pub record PlainCase : Type 0 where
-  pub task : PlainProblem
+  pub problem : PlainProblem
   pub steps : List PlainPlaced
 
 abbrev pub case_with : PlainProblem → List PlainPlaced → PlainCase
-case_with task steps = record { task = task; steps = steps }
+case_with problem steps = record { problem = problem; steps = steps }
 
 -- the problem of a domain's and a problem's bytes, or their first refusal: the domain is read whole before the problem is
-unfoldable pub task_of : List ℕ → List ℕ → Result PlainProblem Refusal
-task_of domain problem = do
+unfoldable pub problem_of_texts : List ℕ → List ℕ → Result PlainProblem Refusal
+problem_of_texts domain problem = do
   domain_tree ← or_refusal (text_refusal files.Domain) (tree_of domain)
   world ← or_refusal (read_refusal files.Domain) (domain_or_refusal domain_tree)
   problem_tree ← or_refusal (text_refusal files.Problem) (tree_of problem)
@@ -32,16 +33,16 @@ task_of domain problem = do
 
 -- the steps of a plan's bytes in a problem, or their first refusal: all lines are read before a step is looked at
 unfoldable pub steps_of : PlainProblem → List ℕ → Result (List PlainPlaced) Refusal
-steps_of task plan = do
+steps_of problem plan = do
   lines ← or_refusal plan_refusal (plan_of plan)
-  or_refusal exec_refusal (placed_or_fault task lines)
+  or_refusal exec_refusal (placed_or_fault problem lines)
 
 -- the case of a domain's, a problem's and a plan's bytes, or their first refusal
 unfoldable pub case_of : List ℕ → List ℕ → List ℕ → Result PlainCase Refusal
 case_of domain problem plan = do
-  task ← task_of domain problem
-  steps ← steps_of task plan
-  Ok (case_with task steps)
+  read ← problem_of_texts domain problem
+  steps ← steps_of read plan
+  Ok (case_with read steps)
 
 -- when its steps are
 abbrev pub times_of : PlainCase → List PlainTimed
@@ -53,4 +54,4 @@ grid_of c = grid_of_plan c.steps
 
 -- its steps on this grid, from the first state to the goal
 abbrev pub box_of : PlainCase → PlainBox
-box_of c = box_of_plan c.task c.steps
+box_of c = box_of_plan c.problem c.steps

@@ -1,11 +1,15 @@
 pub mod Words
 pub mod Named
+pub mod Calls
+pub mod Texts
+pub mod Loading
 pub mod Refusals
 pub mod Case
 pub mod Cases
 pub mod Replies
 pub mod Verdict
 pub mod Replay
-pub mod Judging
+pub mod Answers
 pub mod Outcome
+pub mod Headline
 pub mod Exit

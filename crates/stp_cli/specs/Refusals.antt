@@ -2,10 +2,10 @@
 use Rattle.std.specs.Prelude.{◌≡◌, ℕ, Result, Ok, Err}
 use Rattle.stp_text.specs.declared.fault.TextFault.{TextFault}
 use Rattle.stp_text.specs.declared.fault.TextFault.TheVariants as texts
-use Rattle.stp_offence.specs.declared.code.Code.{Code}
-use Rattle.stp_offence.specs.declared.code.Code.TheVariants as codes
-use Rattle.stp_offence.specs.declared.phase.ReadFault.{ReadFault}
-use Rattle.stp_offence.specs.declared.phase.ReadFault.TheVariants as reads
+use Rattle.stp_refusal.specs.declared.code.Code.{Code}
+use Rattle.stp_refusal.specs.declared.code.Code.TheVariants as codes
+use Rattle.stp_refusal.specs.declared.phase.ReadFault.{ReadFault}
+use Rattle.stp_refusal.specs.declared.phase.ReadFault.TheVariants as reads
 use Rattle.stp_plan.specs.declared.fault.PlanFault.{PlanFault}
 use Rattle.stp_plan.specs.declared.fault.PlanFault.TheVariants as plans
 use Rattle.stp_exec.specs.declared.fault.ExecFault.{ExecFault}
@@ -18,12 +18,6 @@ use Rattle.stp_cli.specs.declared.refusal.Refusal.{Refusal}
 
 abbrev pub refusal : FileName → Code → ℕ → Refusal
 refusal file code at = record { file = file; code = code; at = at }
-
-infixl 10 ◌>>=◌
--- goes on with a value, where nothing was refused: `x ← r` in a `do`
-abbrev pub ◌>>=◌ : {A B : Type 0} → Result A Refusal → (A → Result B Refusal) → Result B Refusal
-◌>>=◌ (Err refusal) f = Err refusal
-◌>>=◌ (Ok x) f = f x
 
 -- ---- what the faults of readers refuse (want of memory is no fault of a file, and none of what readers say of one)
 
@@ -56,7 +50,11 @@ abbrev pub or_refusal : {A F : Type 0} → (F → Refusal) → Result A F → Re
 or_refusal refuse (Ok value) = Ok value
 or_refusal refuse (Err fault) = Err (refuse fault)
 
+-- the answer to a refusal
+abbrev pub refused : Refusal → Answer
+refused r = answers.Refused r.file r.code r.at
+
 -- the refusal, or an answer that is right
 abbrev pub IsOrRefused : {A : Type 0} → (A → Answer → Type 0) → Result A Refusal → Answer → Type 0
-IsOrRefused right (Err refusal) answer = answer ≡ answers.Refused refusal.file refusal.code refusal.at
+IsOrRefused right (Err refusal) answer = answer ≡ refused refusal
 IsOrRefused right (Ok value) answer = right value answer

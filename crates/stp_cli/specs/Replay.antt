@@ -1,5 +1,6 @@
 -- Runs under durations that a text chooses.
 use Rattle.std.specs.Prelude.{◌≡◌, ℕ, ◌*◌, List, map, Option, Some, None, MatchOption, Result, Ok, Err}
+use Rattle.std.specs.Borrow.{Bor}
 use Rattle.stp_frac.specs.Fractions.{Fraction}
 use Rattle.stp_happen.specs.Plain.{PlainRun, Executes}
 use Rattle.stp_happen.specs.Faults.{IsFirstFault}
@@ -7,20 +8,26 @@ use Rattle.stp_happen.specs.Boxes.{PlainBox, run_under, finer_box}
 use Rattle.stp_happen.specs.Orders.{IsInSomeOrder}
 use Rattle.stp_happen.specs.Runs.{plain_run}
 use Rattle.stp_happen.specs.declared.fault.Fault.{Fault}
-use Rattle.stp_offence.specs.declared.code.Code.{Code}
-use Rattle.stp_offence.specs.declared.code.Code.TheVariants.{V01}
-use Rattle.stp_timing.specs.Lists.{durations_in}
-use Rattle.stp_timing.specs.Timed.{PlainTimed, count_of}
-use Rattle.stp_timing.specs.Fitting.{judge_list, grid_with}
+use Rattle.stp_happen.specs.declared.run.Run.{Run}
+use Rattle.stp_refusal.specs.declared.code.Code.{Code}
+use Rattle.stp_refusal.specs.declared.code.Code.TheVariants.{V01}
+use Rattle.stp_exec.specs.Lists.{durations_in}
+use Rattle.stp_exec.specs.Timed.{PlainTimed, count_of}
+use Rattle.stp_exec.specs.Fitting.{judge_list, grid_with}
 use Rattle.stp_report.specs.declared.answer.Answer.{Answer}
 use Rattle.stp_report.specs.declared.answer.Answer.TheVariants as answers
 use Rattle.stp_report.specs.declared.answer.FileName.TheVariants as files
 use Rattle.stp_cli.specs.declared.refusal.Refusal.{Refusal}
-use Rattle.stp_cli.specs.Refusals.{refusal, ◌>>=◌, IsOrRefused}
+use Rattle.stp_base.specs.Results.{◌>>=◌}
+use Rattle.stp_cli.specs.Refusals.{refusal, IsOrRefused}
 use Rattle.stp_cli.specs.Case.{PlainCase, times_of, grid_of, box_of}
 
+-- a text that is no list of durations
+abbrev pub bad_list : Refusal
+bad_list = refusal files.Durations V01 0
+
 abbrev pub list_read : Option (List Fraction) → Result (List Fraction) Refusal
-list_read None = Err (refusal files.Durations V01 0)
+list_read None = Err bad_list
 list_read (Some durations) = Ok durations
 
 abbrev pub list_fits : Option (Code × ℕ) → List Fraction → Result (List Fraction) Refusal
@@ -37,20 +44,23 @@ durations_of times text = do
 abbrev pub IsJudgedBy : PlainRun → Option Fault → Type 0
 IsJudgedBy run fault = MatchOption fault (Executes run) (IsFirstFault run)
 
--- the run of a box under durations on a grid, and its first fault if it has one
-abbrev pub IsRunWith : ℕ → PlainBox → List ℕ → Answer → Type 0
-IsRunWith grid box durations (answers.Strong steps uncertain k) = ⊥
-IsRunWith grid box durations (answers.Weak k chosen fault) = ⊥
-IsRunWith grid box durations (answers.Replay run fault) = (run.now.grid ≡ grid) × IsInSomeOrder (plain_run run.now) (run_under box durations) × IsJudgedBy (run_under box durations) fault
-IsRunWith grid box durations (answers.Refused file code at) = ⊥
-IsRunWith grid box durations (answers.ReadFault file) = ⊥
-IsRunWith grid box durations answers.Usage = ⊥
+-- the answer shows the run of a box under durations on a grid, in some order, and its first fault if it has one
+pub record IsRunWith (grid : ℕ) (box : PlainBox) (durations : List ℕ) (answer : Answer) : Type 0 where
+  pub run : Bor Run
+  pub fault : Option Fault
+  pub on_grid : run.now.grid ≡ grid
+  pub same : IsInSomeOrder (plain_run run.now) (run_under box durations)
+  pub judged : IsJudgedBy (run_under box durations) fault
+  pub answered : answer ≡ answers.Replay run fault
 
--- the run under these durations, on the least grid on which both the plan and they lie, which is finer than the base grid by a factor
-abbrev pub IsReplay : PlainCase → List Fraction → Answer → Type 0
-IsReplay c durations answer =
-    let grid = grid_with (times_of c) durations in
-    (factor : ℕ) × (grid_of c * factor ≡ grid) × IsRunWith grid (finer_box factor (box_of c)) (map (count_of grid) durations) answer
+-- the run under these durations, on the least grid on which both the plan and they lie, which is finer than the
+-- base grid by a factor
+pub record IsReplay (c : PlainCase) (durations : List Fraction) (answer : Answer) : Type 0 where
+  pub factor : ℕ
+  pub finer : grid_of c * factor ≡ grid_with (times_of c) durations
+  pub shown :
+      let grid = grid_with (times_of c) durations in
+      IsRunWith grid (finer_box factor (box_of c)) (map (count_of grid) durations) answer
 
 -- the answer to `replay` on a case and a list of durations
 abbrev pub IsReplayedCase : List ℕ → PlainCase → Answer → Type 0

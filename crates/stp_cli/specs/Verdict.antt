@@ -1,17 +1,40 @@
 -- Verdicts on boxes.
-use Rattle.std.specs.Prelude.{◌≡◌, ℕ, length, count_by}
+use Rattle.std.specs.Prelude.{◌≡◌, ℕ, ◌⊎◌, Bool, ◌&&◌, is_some, List, count_by}
+use Rattle.std.specs.Borrow.{Bor}
 use Rattle.stp_happen.specs.Faults.{IsFirstFault}
-use Rattle.stp_happen.specs.Boxes.{PlainBox, IsStrong, run_under}
+use Rattle.stp_happen.specs.Boxes.{PlainOwner, PlainBox, IsStrong, run_under}
 use Rattle.stp_happen.specs.LeastFailure.{IsLeastFailure}
+use Rattle.stp_happen.specs.declared.fault.Fault.{Fault}
 use Rattle.stp_report.specs.declared.answer.Answer.{Answer}
 use Rattle.stp_report.specs.declared.answer.Answer.TheVariants as answers
 
--- Strong exactly where on every finer grid and for every choice of the uncertain durations the run executes; and otherwise
--- the least durations on the box's own grid at which it does not, with the first fault of that run.
+-- steps have a first event, and events of the environment have none
+abbrev pub is_step : PlainOwner → Bool
+is_step o = is_some o.first
+
+abbrev pub is_uncertain_step : PlainOwner → Bool
+is_uncertain_step o = is_step o && o.uncertain
+
+abbrev pub step_count : PlainBox → ℕ
+step_count box = count_by is_step box.owners
+
+abbrev pub uncertain_count : PlainBox → ℕ
+uncertain_count box = count_by is_uncertain_step box.owners
+
+-- on every finer grid and for every choice of the uncertain durations the run executes, and that is the answer
+pub record IsStrongVerdict (grid : ℕ) (box : PlainBox) (answer : Answer) : Type 0 where
+  pub strong : IsStrong box
+  pub answered : answer ≡ answers.Strong (step_count box) (uncertain_count box) grid
+
+-- it does not, and the answer is the least durations on the box's own grid at which it does not, with the first
+-- fault of that run
+pub record IsWeakVerdict (grid : ℕ) (box : PlainBox) (answer : Answer) : Type 0 where
+  pub durations : Bor (List ℕ)
+  pub fault : Fault
+  pub weak : IsStrong box → ⊥
+  pub least : IsLeastFailure box durations.now
+  pub first : IsFirstFault (run_under box durations.now) fault
+  pub answered : answer ≡ answers.Weak grid durations fault
+
 abbrev pub IsVerdict : ℕ → PlainBox → Answer → Type 0
-IsVerdict grid box (answers.Strong steps uncertain k) = (steps ≡ length box.steps) × (uncertain ≡ count_by (λ s. s.uncertain) box.steps) × (k ≡ grid) × IsStrong box
-IsVerdict grid box (answers.Weak k durations fault) = (k ≡ grid) × (IsStrong box → ⊥) × IsLeastFailure box durations.now × IsFirstFault (run_under box durations.now) fault
-IsVerdict grid box (answers.Replay run fault) = ⊥
-IsVerdict grid box (answers.Refused file code at) = ⊥
-IsVerdict grid box (answers.ReadFault file) = ⊥
-IsVerdict grid box answers.Usage = ⊥
+IsVerdict grid box answer = IsStrongVerdict grid box answer ⊎ IsWeakVerdict grid box answer

@@ -1,57 +1,74 @@
 -- Command lines.
-use Rattle.std.specs.Prelude.{ℕ, Bool, false, not, ◌==◌, ◌&&◌, if◌then◌else◌, List, [], ◌∷◌, Option, Some, None, bytes_eq, codes}
+use Rattle.std.specs.Prelude.{ℕ, Bool, false, not, ◌==◌, ◌&&◌, if◌then◌else◌, List, [], ◌∷◌, length, take, drop, Option, Some, None, bytes_eq, codes}
+use Rattle.std.specs.List.{list_all}
+use Rattle.stp_report.specs.declared.answer.FileName.{FileName}
+use Rattle.stp_report.specs.declared.answer.FileName.TheVariants.{Domain, Problem, Plan}
+use Rattle.stp_cli.specs.declared.words.Work.{Work}
+use Rattle.stp_cli.specs.declared.words.Work.TheVariants.{Check, Replay}
 
--- the names of the files of a command
-pub record Names : Type 0 where
-  pub domain : List ℕ
-  pub problem : List ℕ
-  pub plan : List ℕ
+-- a file of a command: what it is, and its name
+pub record Named : Type 0 where
+  pub role : FileName
+  pub name : List ℕ
 
 -- what words ask for
-pub data Command : Type 0 where
-  -- a verdict on a plan
-  Check : (names : Names) → Command
-  -- the run of a plan under the durations that a text lists
-  Replay : (names : Names) → (list : List ℕ) → Command
+pub record Command : Type 0 where
+  pub work : Work
+  -- the names of its files, as the words have them
+  pub names : List (List ℕ)
+  -- the durations that it lists, empty where its work wants none
+  pub list : List ℕ
+
+-- ---- files
+
+-- which files a work wants, in the order in which they are named and loaded
+abbrev pub roles_of : Work → List FileName
+roles_of Check = Domain ∷ Problem ∷ Plan ∷ []
+roles_of Replay = Domain ∷ Problem ∷ Plan ∷ []
+
+-- each role with the name in its place
+abbrev pub named_of : List FileName → List (List ℕ) → List Named
+named_of [] names = []
+named_of (role ∷ roles) [] = []
+named_of (role ∷ roles) (name ∷ names) = record { role = role; name = name } ∷ named_of roles names
+
+abbrev pub files_of : Command → List Named
+files_of c = named_of (roles_of c.work) c.names
+
+-- ---- words
 
 -- a word that is not empty and does not begin with `-`
 abbrev pub is_file_word : List ℕ → Bool
 is_file_word [] = false
 is_file_word (b ∷ bs) = not (b == 45)
 
--- these three words as the names of files, where each can name one
-abbrev pub names_in : List ℕ → List ℕ → List ℕ → Option Names
-names_in domain problem plan =
-    if is_file_word domain && (is_file_word problem && is_file_word plan)
-    then Some (record { domain = domain; problem = problem; plan = plan })
+-- a work on files of these names and with this list, where each file that it wants has a name
+abbrev pub command_with : Work → List (List ℕ) → List ℕ → Option Command
+command_with work names list =
+    if (length names == length (roles_of work)) && list_all is_file_word names
+    then Some (record { work = work; names = names; list = list })
     else None
 
-abbrev pub check_of : Option Names → Option Command
-check_of None = None
-check_of (Some names) = Some (Check names)
-
-abbrev pub replay_of : List ℕ → Option Names → Option Command
-replay_of list None = None
-replay_of list (Some names) = Some (Replay names list)
-
--- `check DOMAIN PROBLEM PLAN`, where these are its words
-abbrev pub check_in : List ℕ → Option Names → Option Command
-check_in command names = if bytes_eq command (codes "check") then check_of names else None
-
--- `replay DOMAIN PROBLEM PLAN --durations LIST`, where these are its words; a LIST is not empty and does not begin with `-`
-abbrev pub replay_in : List ℕ → Option Names → List ℕ → List ℕ → Option Command
-replay_in command names option list =
-    if bytes_eq command (codes "replay") && (bytes_eq option (codes "--durations") && is_file_word list)
-    then replay_of list names
+-- `DOMAIN PROBLEM PLAN --durations LIST`: a LIST is not empty and does not begin with `-`
+abbrev pub replay_in : List ℕ → List ℕ → List (List ℕ) → Option Command
+replay_in option list names =
+    if bytes_eq option (codes "--durations") && is_file_word list
+    then command_with Replay names list
     else None
+
+-- two words behind the names
+abbrev pub replay_with : List (List ℕ) → List (List ℕ) → Option Command
+replay_with names (option ∷ list ∷ []) = replay_in option list names
+replay_with names others = None
+
+-- what the words behind a command's word have to be: a line for each command
+abbrev pub row_of : List ℕ → List (List ℕ) → Option Command
+row_of word rest =
+    if bytes_eq word (codes "check") then command_with Check rest [] else
+    (if bytes_eq word (codes "replay") then replay_with (take 3 rest) (drop 3 rest) else
+    None)
 
 -- The command that these words are, with the program's name first. No other list is a command.
 abbrev pub command_of : List (List ℕ) → Option Command
-command_of (program ∷ command ∷ domain ∷ problem ∷ plan ∷ []) = check_in command (names_in domain problem plan)
-command_of (program ∷ command ∷ domain ∷ problem ∷ plan ∷ option ∷ list ∷ []) = replay_in command (names_in domain problem plan) option list
+command_of (program ∷ word ∷ rest) = row_of word rest
 command_of others = None
-
--- the names of a command's files
-abbrev pub names_of_command : Command → Names
-names_of_command (Check names) = names
-names_of_command (Replay names list) = names

@@ -5,13 +5,13 @@ ghost use Rattle.stp_text.specs.Tree.{view, nodes};
 ghost use Rattle.stp_text.specs.Reading.{tree_of};
 ghost use Rattle.stp_schema.specs.Views.{domain_of, problem_of};
 ghost use Rattle.stp_domain.specs.Reading.{domain_or_refusal};
-ghost use Rattle.stp_problem.specs.Reading.{HasTypedConstants, problem_or_refusal};
+ghost use Rattle.stp_problem.specs.Reading.{problem_or_refusal};
 ghost use Rattle.stp_plan.specs.Laws.{IsAbove, IsLawfulPlan};
 ghost use Rattle.stp_plan.specs.Plans.{plan_of};
 ghost use Rattle.stp_plan.specs.Views.{plain_plan};
 ghost use Rattle.stp_exec.specs.Boxed.{placed_or_fault};
 ghost use Rattle.stp_cli.specs.Refusals.{or_refusal, text_refusal, read_refusal, plan_refusal, exec_refusal};
-ghost use Rattle.stp_cli.specs.Case.{task_of, steps_of};
+ghost use Rattle.stp_cli.specs.Case.{problem_of_texts, steps_of};
 ghost use Rattle.stp_cli.specs.Cases.{StandsFor, IsReadAs};
 ghost use Rattle.stp_cli.specs.declared.refusal.Refusal.{Refusal as TheRefusal};
 
@@ -20,7 +20,7 @@ use bumpalo::Bump;
 use std::alloc::Global;
 use stp_base::List;
 use stp_domain::read_domain;
-use stp_exec::{box_placed, place, timed};
+use stp_exec::{TimedStep, box_placed, place, timed};
 use stp_ground::World;
 use stp_happen::BoxRun;
 use stp_plan::{Plan, read_plan};
@@ -28,7 +28,6 @@ use stp_problem::read_problem;
 use stp_report::FileName;
 use stp_schema::{Domain, Problem};
 use stp_text::{Sexpr, tree};
-use stp_timing::TimedStep;
 
 /// The box of a plan's steps on the base grid, and when the steps are.
 #[derive(Drop)]
@@ -65,7 +64,6 @@ fn whole_domain<'a>(
     tree: &'a Sexpr<'a>,
 ) -> Result<Domain<'a>, CaseFault>
     ensures ok { IfOk result (λ d. or_refusal (read_refusal FileName.Domain) (domain_or_refusal (view tree.now)) ≡ Ok (domain_of d)) }
-    ensures fits { IfOk result (λ d. HasTypedConstants (domain_of d)) }
     ensures refused { (r : TheRefusal) → result ≡ Err (CaseFault.Refused r) → or_refusal (read_refusal FileName.Domain) (domain_or_refusal (view tree.now)) ≡ Err r }
 {
     match read_domain(alloc, arena, tree) {
@@ -81,7 +79,6 @@ fn whole_problem<'a>(
     domain: Domain<'a>,
     tree: &'a Sexpr<'a>,
 ) -> Result<Problem<'a>, CaseFault>
-    requires { HasTypedConstants (domain_of domain) }
     ensures ok { IfOk result (λ p. or_refusal (read_refusal FileName.Problem) (problem_or_refusal (domain_of domain.entry) (view tree.now)) ≡ Ok (problem_of p)) }
     ensures refused { (r : TheRefusal) → result ≡ Err (CaseFault.Refused r) → or_refusal (read_refusal FileName.Problem) (problem_or_refusal (domain_of domain.entry) (view tree.now)) ≡ Err r }
 {
@@ -92,7 +89,7 @@ fn whole_problem<'a>(
 }
 
 /// The problem of a domain's and a problem's bytes.
-pub fn read_task<'a>(
+pub fn read_problem_texts<'a>(
     alloc: Global,
     arena: &'a Bump,
     domain: &[u8],
@@ -100,8 +97,8 @@ pub fn read_task<'a>(
 ) -> Result<Problem<'a>, CaseFault>
     requires domain { length domain.now ≤ 1048576 }
     requires problem { length problem.now ≤ 1048576 }
-    ensures ok { IfOk result (λ p. task_of domain.now problem.now ≡ Ok (problem_of p)) }
-    ensures refused { (r : TheRefusal) → result ≡ Err (CaseFault.Refused r) → task_of domain.now problem.now ≡ Err r }
+    ensures ok { IfOk result (λ p. problem_of_texts domain.now problem.now ≡ Ok (problem_of p)) }
+    ensures refused { (r : TheRefusal) → result ≡ Err (CaseFault.Refused r) → problem_of_texts domain.now problem.now ≡ Err r }
 {
     let domain_tree = match read_tree(alloc, arena, FileName::Domain, domain) {
         Ok(tree) => tree,

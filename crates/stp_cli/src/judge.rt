@@ -1,70 +1,71 @@
-//! Replies on the bytes of three files.
+//! Replies on the texts of a command's files.
 
-ghost use Rattle.std.specs.Prelude.{◌≡◌, ◌≤◌, length, IfOk};
-ghost use Rattle.stp_schema.specs.Views.{problem_of};
-ghost use Rattle.stp_cli.specs.Case.{PlainCase, steps_of};
-ghost use Rattle.stp_cli.specs.Cases.{StandsFor};
-ghost use Rattle.stp_cli.specs.Named.{plain_command};
-ghost use Rattle.stp_cli.specs.Outcome.{IsJudged};
+ghost use Rattle.std.specs.Prelude.{IfOk};
+ghost use Rattle.stp_cli.specs.Texts.{AreShort};
 ghost use Rattle.stp_cli.specs.Replies.{IsReply};
-ghost use Rattle.stp_cli.specs.Judging.{IsJudgedCase, IsJudgedSteps};
+ghost use Rattle.stp_cli.specs.Answers.{IsChecked, IsReplayed, IsRight};
 
-use crate::case::{Case, read_steps, read_task};
+use crate::case::{read_problem_texts, read_steps};
 use crate::replay::replay;
 use crate::reply::{Reply, refuse};
+use crate::texts::Texts;
 use crate::verdict::verdict;
-use crate::words::Command;
+use crate::words::Work;
 use bumpalo::Bump;
 use std::alloc::Global;
 use stp_base::Memory;
-use stp_schema::Problem;
 
-/// The reply to a command on a case.
-fn judge_case(alloc: Global, command: &Command<'_>, case: &Case<'_>) -> Result<Reply, Memory>
-    requires { (c : PlainCase) × StandsFor case.now c }
-    ensures { IfOk result (λ r. (c : PlainCase) → StandsFor case.now c → IsReply (IsJudgedCase (plain_command command.now) c) r.status r.text) }
+/// The reply to `check` on the texts of a case.
+fn check_texts(alloc: Global, texts: &Texts) -> Result<Reply, Memory>
+    requires { AreShort texts.now }
+    ensures { IfOk result (λ r. IsReply (IsChecked texts.now) r.status r.text) }
 {
-    match command {
-        Command::Check(_) => verdict(alloc, &case.boxed),
-        Command::Replay(_, list) => replay(alloc, case, list.as_bytes()),
-    }
-}
-
-/// The reply to a command on a problem and the bytes of a plan.
-fn judge_plan<'a>(
-    alloc: Global,
-    arena: &'a Bump,
-    command: &Command<'_>,
-    problem: &'a Problem<'a>,
-    plan: &[u8],
-) -> Result<Reply, Memory>
-    requires { length plan.now ≤ 1048576 }
-    ensures { IfOk result (λ r. IsReply (IsJudgedSteps (plain_command command.now) (problem_of problem.now) plan.now) r.status r.text) }
-{
-    let case = match read_steps(alloc, arena, problem, plan) {
+    let arena = Bump::new(alloc);
+    let problem = match read_problem_texts(
+        alloc,
+        &arena,
+        texts.domain.as_slice(),
+        texts.problem.as_slice(),
+    ) {
+        Ok(problem) => problem,
+        Err(fault) => return refuse(alloc, fault),
+    };
+    let case = match read_steps(alloc, &arena, &problem, texts.plan.as_slice()) {
         Ok(case) => case,
         Err(fault) => return refuse(alloc, fault),
     };
-    judge_case(alloc, command, &case)
+    verdict(alloc, &case.boxed)
 }
 
-/// The reply to a command on the bytes of a domain, a problem and a plan.
-pub fn judge(
-    alloc: Global,
-    command: &Command<'_>,
-    domain: &[u8],
-    problem: &[u8],
-    plan: &[u8],
-) -> Result<Reply, Memory>
-    requires domain { length domain.now ≤ 1048576 }
-    requires problem { length problem.now ≤ 1048576 }
-    requires plan { length plan.now ≤ 1048576 }
-    ensures { IfOk result (λ r. IsReply (IsJudged (plain_command command.now) domain.now problem.now plan.now) r.status r.text) }
+/// The reply to `replay` on the texts of a case and a list of durations.
+fn replay_texts(alloc: Global, texts: &Texts, list: &str) -> Result<Reply, Memory>
+    requires { AreShort texts.now }
+    ensures { IfOk result (λ r. IsReply (IsReplayed list.now texts.now) r.status r.text) }
 {
     let arena = Bump::new(alloc);
-    let task = match read_task(alloc, &arena, domain, problem) {
-        Ok(task) => task,
+    let problem = match read_problem_texts(
+        alloc,
+        &arena,
+        texts.domain.as_slice(),
+        texts.problem.as_slice(),
+    ) {
+        Ok(problem) => problem,
         Err(fault) => return refuse(alloc, fault),
     };
-    judge_plan(alloc, &arena, command, &task, plan)
+    let case = match read_steps(alloc, &arena, &problem, texts.plan.as_slice()) {
+        Ok(case) => case,
+        Err(fault) => return refuse(alloc, fault),
+    };
+    replay(alloc, &case, list.as_bytes())
+}
+
+/// The reply to a work on the texts of its files: a line for each work.
+pub fn judge(alloc: Global, work: Work, list: &str, texts: &Texts) -> Result<Reply, Memory>
+    requires { AreShort texts.now }
+    ensures { IfOk result (λ r. IsReply (IsRight work list.now texts.now) r.status r.text) }
+{
+    match work {
+        Work::Check => check_texts(alloc, texts),
+        Work::Replay => replay_texts(alloc, texts, list),
+    }
 }

@@ -3,11 +3,14 @@
 
 mod case;
 mod judge;
+pub mod laws;
+mod loading;
 mod refusal;
 mod replay;
 mod reply;
 mod status;
 mod steady;
+mod texts;
 mod top;
 mod verdict;
 mod words;

@@ -6,8 +6,8 @@ ghost use Rattle.stp_cli.specs.declared.refusal.CaseFault.TheVariants.{Memory as
 
 use stp_base::Memory;
 use stp_exec::ExecFault;
-use stp_offence::{Code, ReadFault};
 use stp_plan::PlanFault;
+use stp_refusal::{Code, ReadFault};
 use stp_report::FileName;
 use stp_text::TextFault;
 use thiserror::Error;

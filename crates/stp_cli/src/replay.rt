@@ -1,18 +1,19 @@
 //! Runs under chosen durations.
 
-ghost use Rattle.std.specs.Prelude.{◌≡◌, ◌≢◌, ◌<◌, ◌≤◌, ◌*◌, ◌^◌, true, false, ℕ, length, map, All, None, IfOk, IfSome, Ok, Err};
+ghost use Rattle.std.specs.Prelude.{◌≡◌, ◌<◌, ◌≤◌, ◌*◌, ◌^◌, true, length, map, All, None, IfOk, IfSome, Ok, Err};
 ghost use Rattle.stp_frac.specs.Fractions.{value_of, is_below_zero};
 ghost use Rattle.std.specs.Borrow.{Bor};
-ghost use Rattle.stp_happen.specs.Boxes.{plain_box, finer_box, IsVector};
+ghost use Rattle.stp_happen.specs.BoxViews.{plain_box};
+ghost use Rattle.stp_happen.specs.Boxes.{finer_box, IsVector};
 ghost use Rattle.stp_happen.specs.declared.run.Run.{Run as TheRun};
 ghost use Rattle.stp_report.specs.Bounds.{IsFaultTime};
-ghost use Rattle.stp_timing.specs.Lists.{durations_in};
-ghost use Rattle.stp_timing.specs.Timed.{base_grid, count_of, plain_timed, is_lawful_timed};
-ghost use Rattle.stp_timing.specs.Fitting.{grid_with, judge_list};
+ghost use Rattle.stp_exec.specs.Lists.{durations_in};
+ghost use Rattle.stp_exec.specs.Timed.{base_grid, count_of, plain_timed, is_lawful_timed};
+ghost use Rattle.stp_exec.specs.Fitting.{grid_with, judge_list};
 ghost use Rattle.stp_cli.specs.Case.{PlainCase, times_of};
 ghost use Rattle.stp_cli.specs.Cases.{StandsFor};
 ghost use Rattle.stp_cli.specs.Replies.{IsReply};
-ghost use Rattle.stp_cli.specs.Replay.{list_read, list_fits, durations_of, IsRunWith, IsReplayedCase};
+ghost use Rattle.stp_cli.specs.Replay.{bad_list, list_read, list_fits, durations_of, IsRunWith, IsReplayedCase};
 ghost use Rattle.stp_cli.specs.declared.refusal.Refusal.{Refusal as TheRefusal};
 
 use crate::case::Case;
@@ -20,13 +21,24 @@ use crate::refusal::{CaseFault, read_refused, refused};
 use crate::reply::{Reply, refuse, reply_with};
 use std::alloc::Global;
 use stp_base::{List, Memory, StateRow};
+use stp_exec::{Fitted, ListFault, TimedStep, fit_durations, read_durations};
 use stp_frac::Frac;
 use stp_happen::refine::refine;
 use stp_happen::run_at::run_at;
 use stp_happen::{BoxRun, Fault, Run, first_fault};
-use stp_offence::Code;
+use stp_refusal::Code;
 use stp_report::{Answer, FileName};
-use stp_timing::{Fitted, ListFault, TimedStep, fit_durations, read_durations};
+
+/// A fault of a list of durations as its refusal.
+fn list_refused(fault: ListFault) -> CaseFault
+    ensures memory { fault ≡ ListFault.Memory → result ≡ CaseFault.Memory }
+    ensures refused { fault ≡ ListFault.BadList → result ≡ CaseFault.Refused bad_list }
+{
+    match fault {
+        ListFault::BadList => refused(FileName::Durations, Code::V01, 0),
+        ListFault::Memory => CaseFault::Memory,
+    }
+}
 
 /// The durations that a text lists.
 fn read_list(alloc: Global, text: &[u8]) -> Result<List<Frac>, CaseFault>
@@ -36,8 +48,7 @@ fn read_list(alloc: Global, text: &[u8]) -> Result<List<Frac>, CaseFault>
 {
     let durations = match read_durations(alloc, text) {
         Ok(durations) => durations,
-        Err(ListFault::BadList) => return Err(refused(FileName::Durations, Code::V01, 0)),
-        Err(ListFault::Memory) => return Err(CaseFault::Memory),
+        Err(fault) => return Err(list_refused(fault)),
     };
     if durations.as_slice().len() > u32::MAX as usize {
         return Err(CaseFault::Memory);
@@ -84,7 +95,7 @@ fn run_on(
 ) -> Result<Reply, Memory>
     requires factor { 1 ≤ factor }
     requires grid { boxed.now.grid * factor ≤ 999999999 }
-    requires vector { IsVector (finer_box factor (plain_box boxed.now)).steps durations.now }
+    requires vector { IsVector (finer_box factor (plain_box boxed.now)).owners durations.now }
     ensures { IfOk result (λ r. IsReply (IsRunWith (boxed.now.grid * factor) (finer_box factor (plain_box boxed.now)) durations.now) r.status r.text) }
 {
     let finer = refine(alloc, boxed, factor)?;

@@ -1,8 +1,9 @@
 //! Answers, printed.
 
-ghost use Rattle.std.specs.Prelude.{◌≡◌, IfOk};
+ghost use Rattle.std.specs.Prelude.{◌≡◌, IfOk, IfErr};
 ghost use Rattle.stp_report.specs.Bounds.{AreTimes};
 ghost use Rattle.stp_report.specs.Texts.{text_of};
+ghost use Rattle.stp_cli.specs.Refusals.{refused};
 ghost use Rattle.stp_cli.specs.Replies.{status_of, IsReply};
 ghost use Rattle.stp_cli.specs.declared.refusal.Refusal.{Refusal as TheRefusal};
 
@@ -47,14 +48,27 @@ pub(crate) fn reply_with(alloc: Global, answer: &Answer<'_, '_>) -> Result<Reply
     })
 }
 
-/// The reply to a refusal.
-pub(crate) fn refuse(alloc: Global, fault: CaseFault) -> Result<Reply, Memory>
-    ensures { IfOk result (λ r. (refusal : TheRefusal) × (fault ≡ CaseFault.Refused refusal) × IsReply (λ a. a ≡ Answer.Refused refusal.file refusal.code refusal.at) r.status r.text) }
+/// What is answered to a refusal.
+fn refused_answer(fault: CaseFault) -> Result<Answer<'static, 'static>, Memory>
+    ensures refused { IfOk result (λ a. (refusal : TheRefusal)
+        × (fault ≡ CaseFault.Refused refusal)
+        × (a ≡ refused refusal)) }
+    ensures memory { IfErr result (λ _. fault ≡ CaseFault.Memory) }
 {
     match fault {
-        CaseFault::Refused(Refusal { file, code, at }) => {
-            reply_with(alloc, &Answer::Refused { file, code, at })
-        }
+        CaseFault::Refused(Refusal { file, code, at }) => Ok(Answer::Refused { file, code, at }),
         CaseFault::Memory => Err(Memory),
+    }
+}
+
+/// The reply to a refusal.
+pub(crate) fn refuse(alloc: Global, fault: CaseFault) -> Result<Reply, Memory>
+    ensures { IfOk result (λ r. (refusal : TheRefusal)
+        × (fault ≡ CaseFault.Refused refusal)
+        × IsReply (λ a. a ≡ refused refusal) r.status r.text) }
+{
+    match refused_answer(fault) {
+        Ok(answer) => reply_with(alloc, &answer),
+        Err(fault) => Err(fault),
     }
 }

@@ -1,7 +1,7 @@
 //! The top call where nothing outside fails.
 
-ghost use Rattle.std.specs.Prelude.{◌≡◌, true, Some, None, map, string_bytes};
-ghost use Rattle.stp_io.specs.Steady.{content_of};
+ghost use Rattle.std.specs.Prelude.{◌≡◌, map, string_bytes};
+ghost use Rattle.stp_cli.specs.Calls.{steady_call, silent_call};
 ghost use Rattle.stp_cli.specs.Outcome.{IsOutcome};
 
 use crate::status::Status;
@@ -16,7 +16,7 @@ pub fn run_steadily(
     store: &mut SteadyStore,
     sink: &mut SteadySink,
 ) -> Status
-    ensures outcome { IsOutcome (record { told = Some (λ name. Some (content_of store.old name)); steady = λ name. true; faults = 0; faults_after = 0 }) (record { written = None; written_after = None; faults = 0; faults_after = 0 }) (map string_bytes words.now) result }
+    ensures outcome { IsOutcome (steady_call store.old) silent_call (map string_bytes words.now) result }
     ensures never { result ≡ Status.OutsideFault → ⊥ }
 {
     run(alloc, words, store, sink)

@@ -1,7 +1,8 @@
 //! Verdicts on boxes.
 
 ghost use Rattle.std.specs.Prelude.{◌≡◌, ◌<◌, ◌≤◌, ◌^◌, length, count_by, IfOk};
-ghost use Rattle.stp_happen.specs.Boxes.{IsStrong, plain_box};
+ghost use Rattle.stp_happen.specs.BoxViews.{plain_box};
+ghost use Rattle.stp_happen.specs.Boxes.{IsStrong};
 ghost use Rattle.stp_happen.specs.LeastFailure.{IsLeastFailure};
 ghost use Rattle.stp_cli.specs.Replies.{IsReply};
 ghost use Rattle.stp_cli.specs.Verdict.{IsVerdict};

@@ -1,24 +1,42 @@
 //! Command lines.
 
-ghost use Rattle.std.specs.Prelude.{◌≡◌, map, string_bytes, option_map};
-ghost use Rattle.stp_cli.specs.Words.{is_file_word, names_in, check_in, replay_in, command_of};
-ghost use Rattle.stp_cli.specs.Named.{names_of, plain_command};
+ghost use Rattle.std.specs.Prelude.{◌≡◌, map, length, string_bytes, option_map, IfSome};
+ghost use Rattle.std.specs.List.{list_all};
+ghost use Rattle.stp_cli.specs.Words.{is_file_word, roles_of, command_with, replay_in, replay_with, row_of, command_of};
+ghost use Rattle.stp_cli.specs.Named.{plain_command};
 
-/// The names of the files of a command.
-#[derive(Clone, Copy)]
-pub struct Files<'a> {
-    pub domain: &'a str,
-    pub problem: &'a str,
-    pub plan: &'a str,
+use stp_report::FileName;
+
+/// What is to be done.
+#[derive(Clone, Copy, Debug, PartialEq, Eq)]
+pub enum Work {
+    /// A verdict on a plan.
+    Check,
+    /// The run of a plan under the durations that a text lists.
+    Replay,
 }
 
 /// What words ask for.
 #[derive(Clone, Copy)]
-pub enum Command<'a> {
-    /// A verdict on a plan.
-    Check(Files<'a>),
-    /// The run of a plan under the durations that a text lists.
-    Replay(Files<'a>, &'a str),
+pub struct Command<'a> {
+    pub work: Work,
+    /// The names of the files that the work wants, in the order of [`roles_of`].
+    pub names: &'a [String],
+    /// The durations that are listed, empty where the work wants none.
+    pub list: &'a str,
+}
+
+/// The files of a case.
+static CASE: [FileName; 3] = [FileName::Domain, FileName::Problem, FileName::Plan];
+
+/// Which files a work wants, in the order in which they are named and loaded.
+pub fn roles_of(work: Work) -> &'static [FileName]
+    ensures { result.now ≡ roles_of work }
+{
+    match work {
+        Work::Check => &CASE,
+        Work::Replay => &CASE,
+    }
 }
 
 /// Whether a word can name a file: it is not empty and does not begin with `-`.
@@ -31,64 +49,76 @@ fn is_file_word(word: &str) -> bool
     }
 }
 
-/// These words as the names of files.
-fn names<'a>(domain: &'a str, problem: &'a str, plan: &'a str) -> Option<Files<'a>>
-    ensures { option_map names_of result ≡ names_in domain.now problem.now plan.now }
+/// Whether each of these words can name a file.
+fn are_file_words(words: &[String]) -> bool
+    ensures { result ≡ list_all is_file_word (map string_bytes words.now) }
 {
-    if is_file_word(domain) && is_file_word(problem) && is_file_word(plan) {
-        return Some(Files {
-            domain,
-            problem,
-            plan,
-        });
+    for word in words {
+        if !is_file_word(word.as_str()) {
+            return false;
+        }
+    }
+    true
+}
+
+/// A work on files of these names and with this list, where each file that it wants has a name.
+fn command_with<'a>(work: Work, names: &'a [String], list: &'a str) -> Option<Command<'a>>
+    ensures command { option_map plain_command result
+        ≡ command_with work (map string_bytes names.now) list.now }
+    ensures complete { IfSome result (λ c. length c.names.now ≡ length (roles_of c.work)) }
+{
+    if names.len() == roles_of(work).len() && are_file_words(names) {
+        return Some(Command { work, names, list });
     }
     None
 }
 
-/// `check` on these files, where the command word says so.
-fn read_check<'a>(command: &str, files: Option<Files<'a>>) -> Option<Command<'a>>
-    ensures { option_map plain_command result ≡ check_in command.now (option_map names_of files.entry) }
+/// `replay` on these files with this list, where the option before it is the right one.
+fn replay_in<'a>(option: &str, list: &'a str, names: &'a [String]) -> Option<Command<'a>>
+    ensures command { option_map plain_command result
+        ≡ replay_in option.now list.now (map string_bytes names.now) }
+    ensures complete { IfSome result (λ c. length c.names.now ≡ length (roles_of c.work)) }
 {
-    if command != "check" {
-        return None;
+    if option == "--durations" && is_file_word(list) {
+        return command_with(Work::Replay, names, list);
     }
-    match files {
-        Some(files) => Some(Command::Check(files)),
-        None => None,
+    None
+}
+
+/// `replay` on these files, where the words behind them are an option and its list.
+fn replay_with<'a>(names: &'a [String], options: &'a [String]) -> Option<Command<'a>>
+    ensures command { option_map plain_command result
+        ≡ replay_with (map string_bytes names.now) (map string_bytes options.now) }
+    ensures complete { IfSome result (λ c. length c.names.now ≡ length (roles_of c.work)) }
+{
+    match options {
+        [option, list] => replay_in(option.as_str(), list.as_str(), names),
+        _ => None,
     }
 }
 
-/// `replay` on these files, where the words round them say so.
-fn read_replay<'a>(
-    command: &str,
-    files: Option<Files<'a>>,
-    option: &str,
-    list: &'a str,
-) -> Option<Command<'a>>
-    ensures { option_map plain_command result ≡ replay_in command.now (option_map names_of files.entry) option.now list.now }
+/// The command that a word and those behind it are: a line for each command.
+fn row_of<'a>(word: &str, rest: &'a [String]) -> Option<Command<'a>>
+    ensures command { option_map plain_command result ≡ row_of word.now (map string_bytes rest.now) }
+    ensures complete { IfSome result (λ c. length c.names.now ≡ length (roles_of c.work)) }
 {
-    if command == "replay" && option == "--durations" && is_file_word(list) {
-        return match files {
-            Some(files) => Some(Command::Replay(files, list)),
-            None => None,
-        };
+    match word {
+        "check" => command_with(Work::Check, rest, ""),
+        "replay" => {
+            let (names, options) = rest.split_at(rest.len().min(3));
+            replay_with(names, options)
+        }
+        _ => None,
     }
-    None
 }
 
 /// The command that the words, with the program's name first, are.
 pub fn read_words<'a>(words: &'a [String]) -> Option<Command<'a>>
-    ensures { option_map plain_command result ≡ command_of (map string_bytes words.now) }
+    ensures command { option_map plain_command result ≡ command_of (map string_bytes words.now) }
+    ensures complete { IfSome result (λ c. length c.names.now ≡ length (roles_of c.work)) }
 {
     match words {
-        [_program, command, domain, problem, plan] => {
-            let files = names(domain.as_str(), problem.as_str(), plan.as_str());
-            read_check(command.as_str(), files)
-        }
-        [_program, command, domain, problem, plan, option, list] => {
-            let files = names(domain.as_str(), problem.as_str(), plan.as_str());
-            read_replay(command.as_str(), files, option.as_str(), list.as_str())
-        }
+        [_, word, rest @ ..] => row_of(word.as_str(), rest),
         _ => None,
     }
 }

@@ -10,3 +10,5 @@ pub mod Meaning
 pub mod Kept
 pub mod FoldedParts
 pub mod Images
+pub mod Interferes
+pub mod Holding

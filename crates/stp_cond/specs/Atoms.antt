@@ -1,5 +1,5 @@
 -- Sets of atoms as lists of their numbers, and the events that read, add and delete them.
-use Rattle.std.specs.Prelude.{ℕ, Bool, ◌==◌, ◌||◌, not, nat_lt, if◌then◌else◌, List, [], ◌∷◌, filter}
+use Rattle.std.specs.Prelude.{ℕ, Bool, ◌==◌, ◌&&◌, ◌||◌, not, nat_lt, if◌then◌else◌, List, [], ◌∷◌, filter}
 use Rattle.std.specs.List.{list_any, list_all}
 
 -- whether an atom is among these
@@ -29,6 +29,10 @@ pub record PlainEvent : Type 0 where
   pub reads : List ℕ
   pub adds : List ℕ
   pub dels : List ℕ
+
+-- the state after an event: what it deletes is false, and then what it adds is true
+abbrev pub changed_by : PlainEvent → (ℕ → Bool) → ℕ → Bool
+changed_by event state atom = has event.adds atom || (not (has event.dels atom) && state atom)
 
 -- the one reads what the other writes, or adds what the other deletes
 abbrev pub disturbs : PlainEvent → PlainEvent → Bool

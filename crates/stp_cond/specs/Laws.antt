@@ -21,6 +21,10 @@ TruthIsOfShape = (state : ℕ → Bool) (cond : Cond) → truth state cond ≡ h
 abbrev pub ReadsAreOfShape : Type 0
 ReadsAreOfShape = (these : ℕ → Bool) (cond : Cond) → reads_only these cond ≡ list_all these (atoms_in (view cond))
 
+-- a formula holds alike in two states that agree on its atoms
+abbrev pub AtomsDecideTruth : Type 0
+AtomsDecideTruth = (s t : ℕ → Bool) (f : Formula) → ((a : ℕ) → has (atoms_in f) a ≡ true → s a ≡ t a) → holds_in s f ≡ holds_in t f
+
 -- a negation holds exactly where the formula does not
 abbrev pub NegationTurnsTruth : Type 0
 NegationTurnsTruth = (state : ℕ → Bool) (f : Formula) → holds_in state (Negation f) ≡ not (holds_in state f)

@@ -6,3 +6,4 @@ pub mod Formulas
 pub mod Folded
 pub mod Substituted
 pub mod Laws
+pub mod Interferences

@@ -26,7 +26,7 @@ fn is_false(cond: &Cond<'_>) -> bool
 }
 
 /// The negation of a folded formula.
-fn fold_not<'a>(arena: &'a Bump, part: &Cond<'a>) -> Result<Cond<'a>, Memory>
+pub fn fold_not<'a>(arena: &'a Bump, part: &Cond<'a>) -> Result<Cond<'a>, Memory>
     ensures { IfOk result (λ r. view r ≡ folded_not (view part.now)) }
 {
     match part {
@@ -37,7 +37,7 @@ fn fold_not<'a>(arena: &'a Bump, part: &Cond<'a>) -> Result<Cond<'a>, Memory>
 }
 
 /// The conjunction of folded formulas.
-fn fold_and<'a>(arena: &'a Bump, mut parts: Vec<Cond<'a>>) -> Result<Cond<'a>, Memory>
+pub fn fold_and<'a>(arena: &'a Bump, mut parts: Vec<Cond<'a>>) -> Result<Cond<'a>, Memory>
     ensures { IfOk result (λ r. view r ≡ folded_and (map view parts.entry.items)) }
 {
     if parts.iter().any(is_false) {
@@ -52,7 +52,7 @@ fn fold_and<'a>(arena: &'a Bump, mut parts: Vec<Cond<'a>>) -> Result<Cond<'a>, M
 }
 
 /// The disjunction of folded formulas.
-fn fold_or<'a>(arena: &'a Bump, mut parts: Vec<Cond<'a>>) -> Result<Cond<'a>, Memory>
+pub fn fold_or<'a>(arena: &'a Bump, mut parts: Vec<Cond<'a>>) -> Result<Cond<'a>, Memory>
     ensures { IfOk result (λ r. view r ≡ folded_or (map view parts.entry.items)) }
 {
     if parts.iter().any(is_true) {

@@ -1,6 +1,7 @@
 //! Laws about formulas.
 
-ghost use Rattle.stp_cond.specs.Laws.{TruthReadsItsAtoms, TruthIsOfShape, ReadsAreOfShape, NegationTurnsTruth, FoldingKeepsTruth, FoldingKeepsAtoms, SubstitutionKeepsTruth, SubstitutionMapsAtoms, ImageIsAtItsPlace, OtherAtomsStay};
+ghost use Rattle.stp_cond.specs.Interferences.{AtomsShowInterference};
+ghost use Rattle.stp_cond.specs.Laws.{AtomsDecideTruth, TruthReadsItsAtoms, TruthIsOfShape, ReadsAreOfShape, NegationTurnsTruth, FoldingKeepsTruth, FoldingKeepsAtoms, SubstitutionKeepsTruth, SubstitutionMapsAtoms, ImageIsAtItsPlace, OtherAtomsStay};
 
 /// The truth of a formula depends only on the atoms that it reads.
 pub fn truth_reads_its_atoms()
@@ -36,4 +37,14 @@ pub fn substitution_keeps_meaning()
 pub fn images_are_at_their_places()
     ensures placed { ImageIsAtItsPlace }
     ensures others { OtherAtomsStay }
+{}
+
+/// Two events interfere exactly where an atom shows it.
+pub fn atoms_show_interference()
+    ensures { AtomsShowInterference }
+{}
+
+/// A formula holds alike in two states that agree on its atoms.
+pub fn atoms_decide_truth()
+    ensures { AtomsDecideTruth }
 {}

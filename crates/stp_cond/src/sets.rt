@@ -43,7 +43,7 @@ pub fn ascending<'a>(
 }
 
 /// Whether an atom is among ascending ones.
-fn is_among(atoms: &[AtomId], atom: AtomId) -> bool
+pub fn is_among(atoms: &[AtomId], atom: AtomId) -> bool
     requires { set_of (atoms_of atoms.now) ≡ atoms_of atoms.now }
     ensures { result ≡ has (atoms_of atoms.now) atom.0 }
 {
@@ -51,7 +51,7 @@ fn is_among(atoms: &[AtomId], atom: AtomId) -> bool
 }
 
 /// Whether the one list and the other, which is ascending, have an atom in common.
-pub(crate) fn have_common(one: &[AtomId], other: &[AtomId]) -> bool
+pub fn have_common(one: &[AtomId], other: &[AtomId]) -> bool
     requires { set_of (atoms_of other.now) ≡ atoms_of other.now }
     ensures { result ≡ have_common_lem (atoms_of one.now) (atoms_of other.now) }
 {
@@ -59,7 +59,7 @@ pub(crate) fn have_common(one: &[AtomId], other: &[AtomId]) -> bool
 }
 
 /// Those atoms of the one list that are not in the other, which is ascending.
-pub(crate) fn without<'a>(
+pub fn without<'a>(
     arena: &'a Bump,
     atoms: &[AtomId],
     other: &[AtomId],

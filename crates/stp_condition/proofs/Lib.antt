@@ -1,4 +1,8 @@
+pub mod Scopes
+pub mod Found
+pub mod TypedTerms
 pub mod Then
-pub mod Made
-pub mod Reading
-pub mod Typed
+pub mod ReadingConditions
+pub mod TypedConditions
+mod ReadingTimedConditions
+mod TypedTimedConditions

@@ -1,11 +1,11 @@
 -- What is read with the help of what was read before.
 use Rattle.std.proofs.Common.{◌≡◌, ℕ, Bool, List, Option, ◌++◌, ap, ◌∙◌}
-use Rattle.stp_offence.specs.declared.offence.Offence.{Offence}
-use Rattle.stp_offence.specs.First.{first_from}
-use Rattle.stp_offence.specs.Read.{Read, IsRead, map_read}
-use Rattle.stp_offence.proofs.Reading.{finds_after}
+use Rattle.stp_refusal.specs.declared.offence.Offence.{Offence}
+use Rattle.stp_refusal.specs.First.{first_from}
+use Rattle.stp_refusal.specs.Read.{Read, IsRead, map_read}
+use Rattle.stp_refusal.proofs.Reading.{finds_after}
 use Rattle.stp_schema.specs.Formula.{Formula}
-use Rattle.stp_term.specs.Scope.{Var, kinds_of}
+use Rattle.stp_condition.specs.Scope.{Var, kinds_of}
 use Rattle.stp_condition.specs.Variables.{then_read}
 use Rattle.stp_condition.specs.Conditions.{Part, quantifier, body_read}
 

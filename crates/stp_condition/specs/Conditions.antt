@@ -1,28 +1,28 @@
 -- What a tree says as a condition, and its offences.
 use Rattle.std.specs.Prelude.{ℕ, Bool, true, false, if◌then◌else◌, List, [], ◌∷◌, ◌++◌, Option, None}
 use Rattle.stp_text.specs.Tree.{Tree, Trees, Word, Node, NoMore, More}
-use Rattle.stp_offence.specs.declared.code.Code.TheVariants.{D16, D21}
-use Rattle.stp_offence.specs.Items.{has_list, list_of, one_of, two_of}
-use Rattle.stp_offence.specs.Read.{Read, fine, bad, cons_read, map_read, pair_read, given}
+use Rattle.stp_refusal.specs.declared.code.Code.TheVariants.{D16, D21}
+use Rattle.stp_text.specs.Items.{has_list, list_of, one_of, two_of}
+use Rattle.stp_refusal.specs.Read.{Read, fine, bad, cons_read, map_read, pair_read, given}
 use Rattle.stp_schema.specs.Known.{Known}
-use Rattle.stp_schema.specs.Formula.{Formula, Holds, Equal, Negation, Each, Either, ForEach, ForAny, formulas_of, nothing, PlainAtom}
-use Rattle.stp_term.specs.declared.key.Key.{Key}
-use Rattle.stp_term.specs.declared.key.Key.TheVariants as keys
-use Rattle.stp_term.specs.declared.atom.SymbolKind.TheVariants.{Predicate}
-use Rattle.stp_term.specs.Keys.{key_of}
-use Rattle.stp_term.specs.Scope.{Var, kinds_of}
-use Rattle.stp_term.specs.Terms.{term_read}
-use Rattle.stp_term.specs.Atoms.{atom_read}
+use Rattle.stp_schema.specs.Formula.{Formula, Atom, Same, Not, And, Or, Every, Any, formulas_of, nothing, PlainAtom}
+use Rattle.stp_condition.specs.declared.key.Key.{Key}
+use Rattle.stp_condition.specs.declared.key.Key.TheVariants as keys
+use Rattle.stp_condition.specs.declared.atom.SymbolKind.TheVariants.{Predicate}
+use Rattle.stp_condition.specs.Keys.{key_of}
+use Rattle.stp_condition.specs.Scope.{Var, kinds_of}
+use Rattle.stp_condition.specs.Terms.{term_read}
+use Rattle.stp_condition.specs.Atoms.{atom_read}
 use Rattle.stp_condition.specs.Variables.{variables_read, then_read}
 
 -- ---- atoms and equalities
 
 abbrev pub holds : PlainAtom → Formula
-holds atom = Holds atom.symbol atom.terms
+holds atom = Atom atom.symbol atom.terms
 
 -- two terms of any types
 abbrev pub same_read : Known → List Var → ℕ → Option (Tree × Tree) → Read Formula
-same_read k scope at two = given (bad at D16 nothing) (λ p. pair_read Equal (term_read k scope None p.0) (term_read k scope None p.1)) two
+same_read k scope at two = given (bad at D16 nothing) (λ p. pair_read Same (term_read k scope None p.0) (term_read k scope None p.1)) two
 
 -- An equality is between words: lists would be numbers, which are not supported.
 abbrev pub equality_read : Known → List Var → ℕ → Trees → Read Formula
@@ -44,24 +44,24 @@ all_read [] scope = fine []
 all_read (i ∷ is) scope = cons_read (i.says scope) (all_read is scope)
 
 abbrev pub each_of : List Formula → Formula
-each_of fs = Each (formulas_of fs)
+each_of fs = And (formulas_of fs)
 
 abbrev pub either_of : List Formula → Formula
-either_of fs = Either (formulas_of fs)
+either_of fs = Or (formulas_of fs)
 
 -- an implication is a disjunction
 abbrev pub implied : Formula → Formula → Formula
-implied one other = either_of (Negation one ∷ other ∷ [])
+implied one other = either_of (Not one ∷ other ∷ [])
 
 abbrev pub not_read : ℕ → Option Item → Part
-not_read at one scope = given (bad at D16 nothing) (λ i. map_read Negation (i.says scope)) one
+not_read at one scope = given (bad at D16 nothing) (λ i. map_read Not (i.says scope)) one
 
 abbrev pub imply_read : ℕ → Option (Item × Item) → Part
 imply_read at two scope = given (bad at D16 nothing) (λ p. pair_read implied (p.0.says scope) (p.1.says scope)) two
 
 abbrev pub quantifier : Bool → List ℕ → Formula → Formula
-quantifier true = ForEach
-quantifier false = ForAny
+quantifier true = Every
+quantifier false = Any
 
 -- a body in the scope of these variables too
 abbrev pub body_read : Bool → Part → List Var → List Var → Read Formula

@@ -1,4 +1,14 @@
+pub mod Scope
+pub mod Hiding
+pub mod Keys
+pub mod Terms
+pub mod Atoms
+pub mod TypedTerms
 pub mod Variables
 pub mod Conditions
 pub mod Whole
-pub mod Typed
+pub mod TypedConditions
+pub mod Forms
+pub mod TimedConditions
+pub mod Views
+pub mod TypedTimedConditions

@@ -1,13 +1,13 @@
 -- The variables of a quantifier.
 use Rattle.std.specs.Prelude.{ℕ, List, [], ◌∷◌, ◌++◌, Option, Some, None}
 use Rattle.stp_text.specs.Tree.{Tree, Trees, Word, Node}
-use Rattle.stp_offence.specs.declared.code.Code.TheVariants.{D16}
-use Rattle.stp_offence.specs.Read.{Read, fine, bad, cons_read, map_read, also}
-use Rattle.stp_names.specs.Names.{number_of}
-use Rattle.stp_lists.specs.declared.judged.WordKind.TheVariants.{Variable}
-use Rattle.stp_lists.specs.Entries.{Plain, entries_of}
-use Rattle.stp_lists.specs.Judged.{names_wrong}
-use Rattle.stp_term.specs.Scope.{Var}
+use Rattle.stp_refusal.specs.declared.code.Code.TheVariants.{D16}
+use Rattle.stp_refusal.specs.Read.{Read, fine, bad, cons_read, map_read, also}
+use Rattle.stp_tables.specs.Names.{number_of}
+use Rattle.stp_domain_parts.specs.declared.judged.WordKind.TheVariants.{Variable}
+use Rattle.stp_domain_parts.specs.Entries.{Plain, entries_of}
+use Rattle.stp_domain_parts.specs.Judged.{names_wrong}
+use Rattle.stp_condition.specs.Scope.{Var}
 
 -- what is read, and then what is read with its help
 abbrev pub then_read : {A B : Type 0} → Read A → (A → Read B) → Read B

@@ -1,7 +1,7 @@
 -- A condition in the scope of given variables.
 use Rattle.std.specs.Prelude.{ℕ, List, [], ◌∷◌, map}
 use Rattle.std.specs.Borrow.{Bor}
-use Rattle.stp_term.specs.Scope.{Var}
+use Rattle.stp_condition.specs.Scope.{Var}
 
 abbrev pub texts_of : List (Bor (List ℕ)) → List (List ℕ)
 texts_of names = map (λ n. n.now) names

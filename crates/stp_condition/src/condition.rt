@@ -2,36 +2,23 @@
 
 ghost use Rattle.std.specs.Prelude.{◌≡◌, map, IfOk, OnOk};
 ghost use Rattle.stp_text.specs.Tree.{view, views};
-ghost use Rattle.stp_offence.specs.Items.{has_list as has_list_lem, two_of};
-ghost use Rattle.stp_offence.specs.Read.{IsRead};
+ghost use Rattle.stp_text.specs.Items.{two_of};
+ghost use Rattle.stp_refusal.specs.Read.{IsRead};
 ghost use Rattle.stp_schema.specs.Formula.{formula};
 ghost use Rattle.stp_schema.specs.Known.{known};
-ghost use Rattle.stp_term.specs.Keys.{key_of as key_of_lem};
+ghost use Rattle.stp_condition.specs.Keys.{key_of};
 ghost use Rattle.stp_condition.specs.Conditions.{equality_read, all_read, items_read, imply_read, quantified_read, by_key, condition_read};
 
 use crate::formula::{implication, negated, quantified, refused};
 use crate::variables::read_variables;
+use crate::{Key, Scope, SymbolKind, key_of, read_atom, read_term};
 use bumpalo::Bump;
 use bumpalo::collections::into_bump_slice;
 use std::alloc::Global;
 use stp_base::Memory;
-use stp_offence::{Code, Offence};
+use stp_refusal::{Code, Offence};
 use stp_schema::{Declared, Lifted, Objects};
-use stp_term::{Key, Scope, SymbolKind, key_of, read_atom, read_term};
-use stp_text::Sexpr;
-
-/// Whether one of these items is a list.
-fn has_list(items: &[Sexpr<'_>]) -> bool
-    ensures { result ≡ has_list_lem (views items.now) }
-{
-    for item in items {
-        match item {
-            Sexpr::Word { .. } => {}
-            Sexpr::Items { .. } => return true,
-        }
-    }
-    false
-}
+use stp_text::{Sexpr, has_list};
 
 /// An equality by the items behind its `=`, which are two words.
 fn read_equality<'a>(
@@ -107,7 +94,7 @@ fn read_list<'a>(
     ensures value { IfOk result
         (λ r. let k = known declared.now objects.now.rows.now in
         IsRead first.old first.new (formula r)
-        (by_key (key_of_lem text.now) k at text.now (views items.now) (items_read k (views items.now)) scope.old)) }
+        (by_key (key_of text.now) k at text.now (views items.now) (items_read k (views items.now)) scope.old)) }
     ensures kept { OnOk result (scope.new ≡ scope.old) }
 {
     match key_of(text) {

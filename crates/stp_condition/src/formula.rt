@@ -1,14 +1,14 @@
 //! Conditions that are made of others.
 
 ghost use Rattle.std.specs.Prelude.{◌≡◌, IfOk};
-ghost use Rattle.stp_offence.specs.Read.{IsRead, bad};
-ghost use Rattle.stp_schema.specs.Formula.{formula, nothing, Negation};
+ghost use Rattle.stp_refusal.specs.Read.{IsRead, bad};
+ghost use Rattle.stp_schema.specs.Formula.{formula, nothing, Not};
 ghost use Rattle.stp_condition.specs.Conditions.{implied, quantifier};
 
 use bumpalo::Bump;
 use bumpalo::collections::into_bump_slice;
 use stp_base::Memory;
-use stp_offence::{Code, Offence, note};
+use stp_refusal::{Code, Offence, note};
 use stp_schema::Lifted;
 
 /// Notes an offence of a condition, and gives what stands in its place.
@@ -21,7 +21,7 @@ pub fn refused<'a>(at: u32, code: Code, first: &mut Option<Offence>) -> Lifted<'
 
 /// The negation of a condition.
 pub fn negated<'a>(arena: &'a Bump, inner: Lifted<'a>) -> Result<Lifted<'a>, Memory>
-    ensures { IfOk result (λ r. formula r ≡ Negation (formula inner.entry)) }
+    ensures { IfOk result (λ r. formula r ≡ Not (formula inner.entry)) }
 {
     let inner = arena.try_alloc(inner)?;
     Ok(Lifted::Not(inner))

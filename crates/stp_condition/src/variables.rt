@@ -2,21 +2,21 @@
 
 ghost use Rattle.std.specs.Prelude.{◌≡◌, ◌++◌, IfOk, OnOk, List as Sequence};
 ghost use Rattle.stp_text.specs.Tree.{view, views};
-ghost use Rattle.stp_offence.specs.Read.{IsRead, bad, map_read};
-ghost use Rattle.stp_lists.specs.Entries.{plains, kind_view};
+ghost use Rattle.stp_refusal.specs.Read.{IsRead, bad, map_read};
+ghost use Rattle.stp_domain_parts.specs.Entries.{plains, kind_view};
 ghost use Rattle.stp_schema.specs.Rows.{type_names_of};
-ghost use Rattle.stp_term.specs.Scope.{kinds_of};
+ghost use Rattle.stp_condition.specs.Scope.{kinds_of};
 ghost use Rattle.stp_condition.specs.Variables.{names_read, kind_read, typed_read, variables_read};
 
+use crate::Scope;
 use bumpalo::Bump;
 use bumpalo::collections::into_bump_slice;
 use std::alloc::Global;
 use stp_base::{List, Memory};
-use stp_lists::{Entry, WordKind, judge_names, read_entries};
-use stp_names::Names;
-use stp_offence::{Code, Offence, note};
+use stp_domain_parts::{Entry, WordKind, judge_names, read_entries};
+use stp_refusal::{Code, Offence, note};
 use stp_schema::Declared;
-use stp_term::Scope;
+use stp_tables::Names;
 use stp_text::Sexpr;
 
 /// Notes an offence of a type, and gives what stands in its place.

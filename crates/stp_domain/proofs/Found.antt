@@ -7,12 +7,12 @@ use Rattle.std.proofs.lemmas.List.Folds.{position_or_len_push}
 use Rattle.std.proofs.lemmas.List.Quantifiers.{position-Some}
 use Rattle.std.proofs.lemmas.Slice.Eq.{bytes_eq-Decides}
 use Rattle.std.proofs.lemmas.Bool.Decides.{nat_tests}
-use Rattle.stp_offence.specs.Read.{given}
-use Rattle.stp_names.specs.Names.{number_of}
+use Rattle.stp_refusal.specs.Read.{given}
+use Rattle.stp_tables.specs.Names.{number_of}
 use Rattle.stp_schema.specs.declared.lifted.Term.{Term}
 use Rattle.stp_schema.specs.Rows.{Thing, thing_names}
-use Rattle.stp_term.specs.Scope.{with_value}
-use Rattle.stp_term.specs.Terms.{object_at, object_in}
+use Rattle.stp_condition.specs.Scope.{with_value}
+use Rattle.stp_condition.specs.Terms.{object_at, object_in}
 use Rattle.stp_domain.specs.Firsts.{Firsts, no_firsts, with_first, with_firsts, firsts_in}
 use Rattle.stp_domain.specs.Placed.{as_object, placed_term}
 

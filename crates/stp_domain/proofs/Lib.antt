@@ -4,3 +4,4 @@ mod Found
 mod Placing
 mod Members
 mod Typed
+mod Constants

@@ -1,18 +1,19 @@
 -- What is chosen of the offences of four phases, each of which reads what the one before it has read.
 use Rattle.std.proofs.Common.{◌≡◌, List, [], ◌∷◌, Option, Some, None, Ok, Err, ap, sym, ◌∙◌, subst}
 use Rattle.stp_text.specs.Tree.{Tree}
-use Rattle.stp_offence.specs.declared.offence.Offence.{Offence}
-use Rattle.stp_offence.specs.declared.phase.ReadFault.{ReadFault}
-use Rattle.stp_offence.specs.First.{first_of}
-use Rattle.stp_offence.specs.Read.{Read, IsRead}
-use Rattle.stp_offence.specs.Phases.{ended, chosen, or_else}
-use Rattle.stp_section.specs.Domain.{Domain}
+use Rattle.stp_refusal.specs.declared.offence.Offence.{Offence}
+use Rattle.stp_refusal.specs.declared.phase.ReadFault.{ReadFault}
+use Rattle.stp_refusal.specs.First.{first_of}
+use Rattle.stp_refusal.specs.Read.{Read, IsRead}
+use Rattle.stp_refusal.specs.Phases.{ended, chosen, or_else}
+use Rattle.stp_domain_parts.specs.Domain.{Domain}
 use Rattle.stp_schema.specs.Schemas.{PlainSchema}
 use Rattle.stp_schema.specs.Views.{PlainDomain}
-use Rattle.stp_declared.specs.Declarations.{Declarations, declarations_read}
-use Rattle.stp_declared.specs.Tables.{Tables, tables_read}
+use Rattle.stp_domain_tables.specs.Declarations.{Declarations, declarations_read}
+use Rattle.stp_domain_tables.specs.Tables.{Tables, tables_read}
 use Rattle.stp_domain.specs.Schemas.{schemas_read}
-use Rattle.stp_domain.specs.Reading.{parts_phase, declarations_phase, tables_phase, schemas_phase, domain_of_tree, unless_refused, domain_or_refusal}
+use Rattle.stp_refusal.specs.Phases.{unless_refused}
+use Rattle.stp_domain.specs.Reading.{parts_phase, declarations_phase, tables_phase, schemas_phase, domain_of_tree, domain_or_refusal}
 
 -- a phase that ended well found nothing
 ended_well : (f : Option Offence) → ended f ≡ Ok tt → f ≡ None

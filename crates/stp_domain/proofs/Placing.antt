@@ -3,20 +3,20 @@ use Rattle.std.proofs.Common.{◌≡◌, ℕ, Bool, true, false, if◌then◌els
 use Rattle.std.proofs.Math.Path.{fun_ext}
 use Rattle.std.specs.Prelude.{◌==◌, option_map}
 use Rattle.stp_text.specs.Tree.{Tree, Trees, Word, Node, NoMore, More}
-use Rattle.stp_offence.specs.declared.offence.Offence.{Offence}
-use Rattle.stp_offence.specs.declared.code.Code.TheVariants.{D17, D18, D20, D21}
-use Rattle.stp_offence.specs.Items.{count, has_list, list_of, one_of, two_of}
-use Rattle.stp_offence.specs.Read.{Read, fine, bad, cons_read, map_read, pair_read, given}
+use Rattle.stp_refusal.specs.declared.offence.Offence.{Offence}
+use Rattle.stp_refusal.specs.declared.code.Code.TheVariants.{D17, D18, D20, D21}
+use Rattle.stp_text.specs.Items.{count, has_list, list_of, one_of, two_of}
+use Rattle.stp_refusal.specs.Read.{Read, fine, bad, cons_read, map_read, pair_read, given}
 use Rattle.stp_schema.specs.declared.lifted.Term.{Term}
 use Rattle.stp_schema.specs.Rows.{Shape, Thing}
 use Rattle.stp_schema.specs.Known.{Known}
-use Rattle.stp_schema.specs.Formula.{Formula, Equal, Each, Either, And, formulas_of, nothing, PlainAtom}
-use Rattle.stp_term.specs.declared.key.Key.{Key}
-use Rattle.stp_term.specs.declared.key.Key.TheVariants as keys
-use Rattle.stp_term.specs.Keys.{key_of}
-use Rattle.stp_term.specs.Scope.{Var, variable_in}
-use Rattle.stp_term.specs.Terms.{object_in, variable_or, find_term, fits, found_term, term_read, terms_read}
-use Rattle.stp_term.specs.Atoms.{shape_in, atom_with, no_atom, applied_read}
+use Rattle.stp_schema.specs.Formula.{Formula, Same, And, Or, More as MoreFormulas, formulas_of, nothing, PlainAtom}
+use Rattle.stp_condition.specs.declared.key.Key.{Key}
+use Rattle.stp_condition.specs.declared.key.Key.TheVariants as keys
+use Rattle.stp_condition.specs.Keys.{key_of}
+use Rattle.stp_condition.specs.Scope.{Var, variable_in}
+use Rattle.stp_condition.specs.Terms.{object_in, variable_or, find_term, fits, found_term, term_read, terms_read}
+use Rattle.stp_condition.specs.Atoms.{shape_in, atom_with, no_atom, applied_read}
 use Rattle.stp_condition.specs.Conditions.{Part, Item, same_read, equality_read, all_read, holds, each_of, either_of, not_read, imply_read, quantified_read, by_key, by_head, condition_read, items_read}
 use Rattle.stp_domain.specs.Placed.{placed_term, placed, all_placed}
 use Rattle.stp_domain.specs.Firsts.{firsts_in}
@@ -28,7 +28,7 @@ among k things = record k { objects = things }
 
 placed_each : (places : List ℕ) (fs : List Formula) → formulas_of (map (placed places) fs) ≡ all_placed places (formulas_of fs)
 placed_each places [] = refl
-placed_each places (f ∷ fs) = ap (And (placed places f)) (placed_each places fs)
+placed_each places (f ∷ fs) = ap (MoreFormulas (placed places f)) (placed_each places fs)
 
 abbrev with_offences : {A : Type 0} → List Offence → A → Read A
 with_offences offences value = record { offences = offences; value = value }
@@ -87,8 +87,8 @@ module _ (k : Known) (things firsts : List Thing) (places : List ℕ) (same : Ar
   same_placed : (scope : List Var) (at : ℕ) (two : Option (Tree × Tree)) → same_read (among k things) scope at two ≡ map_read (placed places) (same_read (among k firsts) scope at two)
   same_placed scope at None = refl
   same_placed scope at (Some p) =
-      ap (λ r. pair_read Equal r (term_read (among k things) scope None p.1)) (term_placed scope None p.0)
-      ∙ ap (pair_read Equal (map_read (placed_term places) (term_read (among k firsts) scope None p.0))) (term_placed scope None p.1)
+      ap (λ r. pair_read Same r (term_read (among k things) scope None p.1)) (term_placed scope None p.0)
+      ∙ ap (pair_read Same (map_read (placed_term places) (term_read (among k firsts) scope None p.0))) (term_placed scope None p.1)
 
   equality_placed : (scope : List Var) (at : ℕ) (ts : Trees) → equality_read (among k things) scope at ts ≡ map_read (placed places) (equality_read (among k firsts) scope at ts)
   equality_placed scope at ts = listed (has_list ts)
@@ -104,10 +104,10 @@ module _ (k : Known) (things firsts : List Thing) (places : List ℕ) (same : Ar
   members_placed (i ∷ is) scope = ap (cons_read (map_read (placed places) (i.says scope))) (members_placed is scope)
 
   each_placed : (is : List Item) (scope : List Var) → map_read each_of (all_read (map (item_placed places) is) scope) ≡ map_read (placed places) (map_read each_of (all_read is scope))
-  each_placed is scope = ap (map_read each_of) (members_placed is scope) ∙ ap (λ fs. with_offences (all_read is scope).offences (Each fs)) (placed_each places (all_read is scope).value)
+  each_placed is scope = ap (map_read each_of) (members_placed is scope) ∙ ap (λ fs. with_offences (all_read is scope).offences (And fs)) (placed_each places (all_read is scope).value)
 
   either_placed : (is : List Item) (scope : List Var) → map_read either_of (all_read (map (item_placed places) is) scope) ≡ map_read (placed places) (map_read either_of (all_read is scope))
-  either_placed is scope = ap (map_read either_of) (members_placed is scope) ∙ ap (λ fs. with_offences (all_read is scope).offences (Either fs)) (placed_each places (all_read is scope).value)
+  either_placed is scope = ap (map_read either_of) (members_placed is scope) ∙ ap (λ fs. with_offences (all_read is scope).offences (Or fs)) (placed_each places (all_read is scope).value)
 
   not_placed : (at : ℕ) (is : List Item) (scope : List Var) → not_read at (one_of (map (item_placed places) is)) scope ≡ map_read (placed places) (not_read at (one_of is) scope)
   not_placed at [] scope = refl

@@ -4,35 +4,36 @@ use Rattle.std.specs.Prelude.{bytes_eq, unwrap_or, codes}
 use Rattle.std.specs.List.{list_any}
 use Rattle.std.proofs.lemmas.List.Quantifiers.{position-Some}
 use Rattle.stp_text.specs.Tree.{Tree, Trees, Word, Node, NoMore, More}
-use Rattle.stp_offence.specs.declared.offence.Offence.{Offence}
-use Rattle.stp_offence.specs.First.{is_before, first_from, first_of}
-use Rattle.stp_offence.specs.Phases.{or_else, chosen}
-use Rattle.stp_names.specs.Names.{number_of, is_new_in, with_name}
-use Rattle.stp_lists.specs.Entries.{Plain, is_dash}
-use Rattle.stp_lists.specs.Judged.{tree_number, kind_number}
-use Rattle.stp_section.specs.Actions.{Action, Timing, Instant, Controlled, Uncertain}
+use Rattle.stp_refusal.specs.declared.offence.Offence.{Offence}
+use Rattle.stp_refusal.specs.First.{is_before, first_from, first_of}
+use Rattle.stp_refusal.specs.Phases.{or_else, chosen}
+use Rattle.stp_tables.specs.Names.{number_of, is_new_in, with_name}
+use Rattle.stp_domain_parts.specs.Entries.{Plain, is_dash}
+use Rattle.stp_domain_parts.specs.Judged.{tree_number, kind_number}
+use Rattle.stp_domain_parts.specs.Actions.{Action, Timing, Instant, Controlled, Uncertain}
 use Rattle.stp_schema.specs.Rows.{Thing}
 use Rattle.stp_schema.specs.Known.{Known}
 use Rattle.stp_schema.specs.Schemas.{PlainTiming}
 use Rattle.stp_schema.specs.Views.{PlainDomain}
-use Rattle.stp_term.specs.Scope.{Var, kinds_of}
-use Rattle.stp_term.proofs.Typed.{none_first, none_rest}
-use Rattle.stp_condition.specs.Typed.{AreTypes, IsTyped, ReadIsTyped as ConditionsAreTyped}
+use Rattle.stp_condition.specs.Scope.{Var, kinds_of}
+use Rattle.stp_refusal.proofs.Saying.{none_first, none_rest}
+use Rattle.stp_condition.specs.TypedConditions.{AreTypes, IsTyped, ReadConditionsAreTyped}
 use Rattle.stp_condition.specs.Whole.{scope_with}
-use Rattle.stp_timed.specs.Timed.{no_parts, conjunctions, timed_condition_read}
-use Rattle.stp_timed.specs.Typed.{AreConditionsTyped, ReadAreTyped as TimedAreTyped}
-use Rattle.stp_effect.specs.Effects.{no_effects, effect_read}
-use Rattle.stp_effect.specs.Timed.{no_timed_effects, timed_effect_read}
-use Rattle.stp_effect.specs.Typed.{AreEffectsTyped, AreTimedEffectsTyped, ReadAreTyped as EffectsAreTyped}
-use Rattle.stp_duration.specs.Durations.{PlainBounds, duration_read}
-use Rattle.stp_duration.specs.Typed.{AreBoundsTyped, ReadAreTyped as DurationsAreTyped}
-use Rattle.stp_declared.specs.Symbols.{Signature}
-use Rattle.stp_declared.specs.Actions.{ActionSignature}
-use Rattle.stp_declared.specs.Types.{with_type, with_types, types_in}
-use Rattle.stp_declared.specs.Tables.{kinds_of as kinds_in, words_of, shape, thing, Things, no_things, with_thing, with_things, action_shape}
+use Rattle.stp_condition.specs.TimedConditions.{no_parts, conjunctions, timed_condition_read}
+use Rattle.stp_condition.specs.TypedTimedConditions.{AreConditionsTyped, ReadTimedConditionsAreTyped}
+use Rattle.stp_body.specs.Effects.{no_effects, effect_read}
+use Rattle.stp_body.specs.TimedEffects.{no_timed_effects, timed_effect_read}
+use Rattle.stp_body.specs.TypedEffects.{AreEffectsTyped, AreTimedEffectsTyped, ReadEffectsAreTyped}
+use Rattle.stp_body.specs.Durations.{PlainBounds, duration_read}
+use Rattle.stp_body.specs.TypedDurations.{AreBoundsTyped, ReadDurationsAreTyped}
+use Rattle.stp_domain_tables.specs.Symbols.{Signature}
+use Rattle.stp_domain_tables.specs.Actions.{ActionSignature}
+use Rattle.stp_domain_tables.specs.Types.{with_type, with_types, types_in}
+use Rattle.stp_domain_tables.specs.Tables.{kinds_of as kinds_in, words_of, shape, thing, Things, no_things, with_thing, with_things, action_shape}
 use Rattle.stp_domain.specs.Bodies.{PlainBody, optional, needs, simple_read, parts_read, chosen_timing, suffered_timing, durative_read, body_by, body_read}
 use Rattle.stp_domain.specs.Schemas.{schema_read, schemas_read}
-use Rattle.stp_domain.specs.Reading.{parts_phase, declarations_phase, tables_phase, schemas_phase, phases, domain_of_tree, unless_refused, domain_or_refusal}
+use Rattle.stp_refusal.specs.Phases.{unless_refused}
+use Rattle.stp_domain.specs.Reading.{parts_phase, declarations_phase, tables_phase, schemas_phase, phases, domain_of_tree, domain_or_refusal}
 use Rattle.stp_domain.specs.Typed.{IsTimingTyped, IsSchemaTyped, AreSchemasTyped, AreShapesTyped, AreThingsTyped, IsDomainTyped}
 
 -- ---- a domain is given where no phase has an offence
@@ -121,10 +122,10 @@ kinds_scope types (e ∷ es) = ap (λ kinds. kind_number types e ∷ kinds) (kin
 
 -- what is read as a part of an action is typed
 pub record PartsAreTyped : Type 0 where
-  pub conditions : ConditionsAreTyped
-  pub timed : TimedAreTyped
-  pub effects : EffectsAreTyped
-  pub durations : DurationsAreTyped
+  pub conditions : ReadConditionsAreTyped
+  pub timed : ReadTimedConditionsAreTyped
+  pub effects : ReadEffectsAreTyped
+  pub durations : ReadDurationsAreTyped
 
 -- what an action says besides its name and its parameters, in the scope of parameters of these types
 record IsBodyTyped (k : Known) (kinds : List ℕ) (b : PlainBody) : Type 0 where

@@ -1,17 +1,17 @@
 -- What an action says besides its name and its parameters.
 use Rattle.std.specs.Prelude.{List, Option, Some, None}
 use Rattle.stp_text.specs.Tree.{Tree}
-use Rattle.stp_offence.specs.Read.{Read, fine, map_read, pair_read}
-use Rattle.stp_section.specs.Actions.{Action, Timing, Instant, Controlled, Uncertain}
+use Rattle.stp_refusal.specs.Read.{Read, fine, map_read, pair_read}
+use Rattle.stp_domain_parts.specs.Actions.{Action, Timing, Instant, Controlled, Uncertain}
 use Rattle.stp_schema.specs.Known.{Known}
 use Rattle.stp_schema.specs.Formula.{Formula, nothing}
 use Rattle.stp_schema.specs.Schemas.{PlainTiming, Instant as AtOnce, Controlled as Chosen, Uncertain as Suffered}
-use Rattle.stp_term.specs.Scope.{Var}
+use Rattle.stp_condition.specs.Scope.{Var}
 use Rattle.stp_condition.specs.Conditions.{condition_read}
-use Rattle.stp_timed.specs.Timed.{TimedFormulas, no_parts, conjunctions, timed_condition_read}
-use Rattle.stp_effect.specs.Effects.{PlainEffects, no_effects, effect_read}
-use Rattle.stp_effect.specs.Timed.{PlainTimedEffects, no_timed_effects, timed_effect_read}
-use Rattle.stp_duration.specs.Durations.{PlainBounds, duration_read}
+use Rattle.stp_condition.specs.TimedConditions.{TimedFormulas, no_parts, conjunctions, timed_condition_read}
+use Rattle.stp_body.specs.Effects.{PlainEffects, no_effects, effect_read}
+use Rattle.stp_body.specs.TimedEffects.{PlainTimedEffects, no_timed_effects, timed_effect_read}
+use Rattle.stp_body.specs.Durations.{PlainBounds, duration_read}
 
 -- how long it lasts, what it needs, and what it changes; a simple action has all of it at its start
 pub record PlainBody : Type 0 where

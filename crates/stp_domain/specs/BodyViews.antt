@@ -1,8 +1,8 @@
 -- What the structs of actions stand for.
 use Rattle.stp_schema.specs.Formula.{formula}
 use Rattle.stp_schema.specs.Schemas.{timing_of}
-use Rattle.stp_timed.specs.Views.{timed_conditions_of}
-use Rattle.stp_effect.specs.Views.{effects_of, timed_effects_of}
+use Rattle.stp_condition.specs.Views.{timed_conditions_of}
+use Rattle.stp_body.specs.EffectViews.{effects_of, timed_effects_of}
 use Rattle.stp_domain.specs.declared.body.Body.{Body}
 use Rattle.stp_domain.specs.declared.body.Parts.{Parts}
 use Rattle.stp_domain.specs.Bodies.{PlainBody, PlainParts, parts_with}

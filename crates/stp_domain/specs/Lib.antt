@@ -6,3 +6,4 @@ pub mod Firsts
 pub mod FirstViews
 pub mod Placed
 pub mod Typed
+pub mod Laws

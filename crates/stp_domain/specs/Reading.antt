@@ -1,15 +1,16 @@
 -- The domain of a tree, or its one refusal.
 use Rattle.std.specs.Prelude.{List, [], ◌∷◌, Option, Some, None, Result, Ok, Err}
 use Rattle.stp_text.specs.Tree.{Tree}
-use Rattle.stp_offence.specs.declared.offence.Offence.{Offence}
-use Rattle.stp_offence.specs.declared.phase.ReadFault.{ReadFault}
-use Rattle.stp_offence.specs.Read.{Read}
-use Rattle.stp_offence.specs.Phases.{chosen, refusal_of}
-use Rattle.stp_section.specs.Domain.{Domain, domain_read}
+use Rattle.stp_refusal.specs.Phases.{unless_refused}
+use Rattle.stp_refusal.specs.declared.offence.Offence.{Offence}
+use Rattle.stp_refusal.specs.declared.phase.ReadFault.{ReadFault}
+use Rattle.stp_refusal.specs.Read.{Read}
+use Rattle.stp_refusal.specs.Phases.{chosen, refusal_of}
+use Rattle.stp_domain_parts.specs.Domain.{Domain, domain_read}
 use Rattle.stp_schema.specs.Schemas.{PlainSchema}
 use Rattle.stp_schema.specs.Views.{PlainDomain}
-use Rattle.stp_declared.specs.Declarations.{Declarations, declarations_read}
-use Rattle.stp_declared.specs.Tables.{Tables, tables_read}
+use Rattle.stp_domain_tables.specs.Declarations.{Declarations, declarations_read}
+use Rattle.stp_domain_tables.specs.Tables.{Tables, tables_read}
 use Rattle.stp_domain.specs.Schemas.{schemas_read}
 
 -- ---- what each phase reads, of what the phases before it have read
@@ -41,10 +42,6 @@ domain_of_tree t = let known = (tables_phase t).value.known in record {
   constants = known.objects;
   schemas = (schemas_phase t).value;
 }
-
-abbrev pub unless_refused : {A : Type 0} → A → Option Offence → Result A ReadFault
-unless_refused value None = Ok value
-unless_refused value (Some o) = Err (refusal_of o)
 
 -- the domain of a tree; or, of the earliest phase with an offence, the one of the least place, and there the one of the least code
 abbrev pub domain_or_refusal : Tree → Result PlainDomain ReadFault

@@ -5,9 +5,9 @@ use Rattle.stp_schema.specs.Rows.{Shape, Thing}
 use Rattle.stp_schema.specs.Known.{Known}
 use Rattle.stp_schema.specs.Schemas.{PlainTiming, Instant, Controlled, Uncertain, PlainSchema}
 use Rattle.stp_schema.specs.Views.{PlainDomain}
-use Rattle.stp_condition.specs.Typed.{AreTypes, IsTyped}
-use Rattle.stp_effect.specs.Typed.{AreAtomsTyped}
-use Rattle.stp_duration.specs.Typed.{IsExpressionTyped}
+use Rattle.stp_condition.specs.TypedConditions.{AreTypes, IsTyped}
+use Rattle.stp_body.specs.TypedEffects.{AreAtomsTyped}
+use Rattle.stp_body.specs.TypedDurations.{IsExpressionTyped}
 use Rattle.stp_domain.specs.Reading.{domain_or_refusal}
 
 -- what a domain declares, with its constants as the objects that are known
@@ -52,5 +52,5 @@ pub record IsDomainTyped (d : PlainDomain) : Type 0 where
   pub schemas : AreSchemasTyped (known_in d) d.schemas
 
 -- a domain that is read is typed
-abbrev pub ReadIsTyped : Type 0
-ReadIsTyped = (t : Tree) (d : PlainDomain) → domain_or_refusal t ≡ Ok d → IsDomainTyped d
+abbrev pub ReadDomainsAreTyped : Type 0
+ReadDomainsAreTyped = (t : Tree) (d : PlainDomain) → domain_or_refusal t ≡ Ok d → IsDomainTyped d

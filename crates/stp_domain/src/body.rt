@@ -2,32 +2,29 @@
 
 ghost use Rattle.std.specs.Prelude.{◌≡◌, map, option_map, IfOk, OnOk};
 ghost use Rattle.stp_text.specs.Tree.{view};
-ghost use Rattle.stp_offence.specs.Read.{IsRead};
-ghost use Rattle.stp_section.specs.Views.{action_of, tree_in};
+ghost use Rattle.stp_refusal.specs.Read.{IsRead};
+ghost use Rattle.stp_domain_parts.specs.Views.{action_of, tree_in};
 ghost use Rattle.stp_schema.specs.Known.{known};
 ghost use Rattle.stp_schema.specs.Formula.{formula, nothing};
 ghost use Rattle.stp_schema.specs.Schemas.{timing_of};
-ghost use Rattle.stp_timed.specs.Timed.{no_parts, conjunctions, timed_condition_read};
-ghost use Rattle.stp_timed.specs.Views.{timed_conditions_of};
-ghost use Rattle.stp_effect.specs.Effects.{no_effects, effect_read};
-ghost use Rattle.stp_effect.specs.Timed.{no_timed_effects, timed_effect_read};
-ghost use Rattle.stp_effect.specs.Views.{effects_of, timed_effects_of};
-ghost use Rattle.stp_duration.specs.Views.{bounds_of};
+ghost use Rattle.stp_condition.specs.TimedConditions.{no_parts, conjunctions, timed_condition_read};
+ghost use Rattle.stp_condition.specs.Views.{timed_conditions_of};
+ghost use Rattle.stp_body.specs.Effects.{no_effects, effect_read};
+ghost use Rattle.stp_body.specs.TimedEffects.{no_timed_effects, timed_effect_read};
+ghost use Rattle.stp_body.specs.EffectViews.{effects_of, timed_effects_of};
+ghost use Rattle.stp_body.specs.DurationViews.{bounds_of};
 ghost use Rattle.stp_domain.specs.Bodies.{optional, needs, simple_read, parts_read, durative_body, durative_read, chosen_timing, suffered_timing, body_read};
 ghost use Rattle.stp_domain.specs.BodyViews.{body_of, parts_of};
 
 use bumpalo::Bump;
 use std::alloc::Global;
 use stp_base::Memory;
-use stp_condition::read_condition_in;
-use stp_duration::{Bounds, read_duration};
-use stp_effect::{Effects, TimedEffects, read_effect, read_timed_effect};
-use stp_offence::Offence;
+use stp_body::{Bounds, Effects, TimedEffects, read_duration, read_effect, read_timed_effect};
+use stp_condition::{Scope, TimedConditions, read_condition_in, read_timed_condition};
+use stp_domain_parts::{ActionParts, TimingParts};
+use stp_refusal::Offence;
 use stp_schema::{Declared, Lifted, Objects, Timing};
-use stp_section::{ActionParts, TimingParts};
-use stp_term::Scope;
 use stp_text::Sexpr;
-use stp_timed::{TimedConditions, read_timed_condition};
 
 /// How long an action lasts, what it needs, and what it changes.
 #[derive(Clone, Copy)]

@@ -2,9 +2,9 @@
 
 ghost use Rattle.std.specs.Prelude.{◌≡◌, None, Some, Err, IfOk, OnOk};
 ghost use Rattle.stp_text.specs.Tree.{view};
-ghost use Rattle.stp_offence.specs.declared.offence.Offence.{Offence as TheOffence};
-ghost use Rattle.stp_offence.specs.First.{first_of};
-ghost use Rattle.stp_offence.specs.Phases.{refusal_of};
+ghost use Rattle.stp_refusal.specs.declared.offence.Offence.{Offence as TheOffence};
+ghost use Rattle.stp_refusal.specs.First.{first_of};
+ghost use Rattle.stp_refusal.specs.Phases.{refusal_of};
 ghost use Rattle.stp_schema.specs.Formula.{formula};
 ghost use Rattle.stp_schema.specs.Known.{known};
 ghost use Rattle.stp_condition.specs.Conditions.{condition_read};
@@ -14,7 +14,7 @@ use crate::firsts::first_objects;
 use crate::placed::placed;
 use bumpalo::Bump;
 use std::alloc::Global;
-use stp_offence::ReadFault;
+use stp_refusal::ReadFault;
 use stp_schema::{Domain, Lifted, ObjectRow};
 use stp_text::Sexpr;
 

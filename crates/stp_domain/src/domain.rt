@@ -2,17 +2,17 @@
 
 ghost use Rattle.std.specs.Prelude.{◌≡◌, ℕ, Ok, Err, IfOk};
 ghost use Rattle.stp_text.specs.Tree.{view};
-ghost use Rattle.stp_offence.specs.declared.code.Code.{Code as TheCode};
+ghost use Rattle.stp_refusal.specs.declared.code.Code.{Code as TheCode};
 ghost use Rattle.stp_schema.specs.Views.{domain_of};
 ghost use Rattle.stp_domain.specs.Reading.{domain_or_refusal};
 
 use crate::schemas::read_schemas;
 use bumpalo::Bump;
 use std::alloc::Global;
-use stp_declared::{declare, read_declarations};
-use stp_offence::{ReadFault, end_phase};
+use stp_domain_parts::domain_parts;
+use stp_domain_tables::{declare, read_declarations};
+use stp_refusal::{ReadFault, end_phase};
 use stp_schema::Domain;
-use stp_section::domain_parts;
 use stp_text::Sexpr;
 
 /// The domain of a tree, or its one refusal: of the earliest phase with an offence, the one of the least place, and

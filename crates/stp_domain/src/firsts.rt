@@ -8,8 +8,8 @@ ghost use Rattle.stp_domain.specs.FirstViews.{firsts_of};
 use bumpalo::Bump;
 use std::alloc::Global;
 use stp_base::{List, Memory};
-use stp_names::Names;
 use stp_schema::{ObjectRow, Objects};
+use stp_tables::Names;
 
 /// The objects whose names are new when they come, and the place of each among all objects.
 #[derive(Drop)]

@@ -11,7 +11,4 @@ pub mod schemas;
 
 pub use condition::read_condition;
 pub use domain::read_domain;
-pub use stp_offence::ReadFault;
-
-#[cfg(test)]
-mod tests;
+pub use stp_refusal::ReadFault;

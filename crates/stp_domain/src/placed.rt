@@ -2,7 +2,7 @@
 
 ghost use Rattle.std.specs.Prelude.{◌≡◌, map, IfOk};
 ghost use Rattle.stp_schema.specs.Formula.{formula};
-ghost use Rattle.stp_domain.specs.Placed.{placed_term as placed_term_lem, placed as placed_lem};
+ghost use Rattle.stp_domain.specs.Placed.{placed_term, placed};
 
 use bumpalo::Bump;
 use bumpalo::collections::into_bump_slice;
@@ -11,7 +11,7 @@ use stp_schema::{Lifted, LiftedAtom, Term};
 
 /// The same term with an object's place in place of its number.
 fn placed_term(places: &[u32], term: Term) -> Term
-    ensures { result ≡ placed_term_lem places.now term }
+    ensures { result ≡ placed_term places.now term }
 {
     match term {
         Term::Variable(_) => term,
@@ -24,7 +24,7 @@ fn placed_term(places: &[u32], term: Term) -> Term
 
 /// The same of terms in order.
 fn placed_terms<'a>(arena: &'a Bump, places: &[u32], terms: &[Term]) -> Result<&'a [Term], Memory>
-    ensures { IfOk result (λ r. r.now ≡ map (placed_term_lem places.now) terms.now) }
+    ensures { IfOk result (λ r. r.now ≡ map (placed_term places.now) terms.now) }
 {
     let mut out = Vec::new(arena);
     for term in terms {
@@ -40,7 +40,7 @@ fn placed_inner<'a>(
     places: &[u32],
     condition: &Lifted<'a>,
 ) -> Result<&'a Lifted<'a>, Memory>
-    ensures { IfOk result (λ r. formula r.now ≡ placed_lem places.now (formula condition.now)) }
+    ensures { IfOk result (λ r. formula r.now ≡ placed places.now (formula condition.now)) }
 {
     let condition = placed(arena, places, condition)?;
     let condition = arena.try_alloc(condition)?;
@@ -54,7 +54,7 @@ pub fn placed<'a>(
     places: &[u32],
     condition: &Lifted<'a>,
 ) -> Result<Lifted<'a>, Memory>
-    ensures { IfOk result (λ r. formula r ≡ placed_lem places.now (formula condition.now)) }
+    ensures { IfOk result (λ r. formula r ≡ placed places.now (formula condition.now)) }
 {
     match condition {
         Lifted::Atom(atom) => {
@@ -97,7 +97,7 @@ fn placed_all<'a>(
     places: &[u32],
     members: &[Lifted<'a>],
 ) -> Result<&'a [Lifted<'a>], Memory>
-    ensures { IfOk result (λ r. map formula r.now ≡ map (λ c. placed_lem places.now (formula c)) members.now) }
+    ensures { IfOk result (λ r. map formula r.now ≡ map (λ c. placed places.now (formula c)) members.now) }
 {
     let mut out = Vec::new(arena);
     for member in members {

@@ -1,10 +1,11 @@
 //! The actions of a domain: the fourth phase of reading.
 
-ghost use Rattle.std.specs.Prelude.{◌≡◌, map, IfOk};
-ghost use Rattle.stp_offence.specs.Read.{IsRead};
+ghost use Rattle.std.specs.Prelude.{◌≡◌, map, is_some, IfOk};
+ghost use Rattle.stp_refusal.specs.Read.{IsRead};
+ghost use Rattle.stp_domain_parts.specs.Views.{action_of};
 ghost use Rattle.stp_schema.specs.Known.{known};
 ghost use Rattle.stp_schema.specs.Schemas.{schema_of, schema_names_of};
-ghost use Rattle.stp_declared.specs.ActionRows.{action_shape_of, row_names_of};
+ghost use Rattle.stp_domain_tables.specs.ActionRows.{action_shape_of, row_names_of};
 ghost use Rattle.stp_condition.specs.Whole.{texts_of, scope_with};
 ghost use Rattle.stp_domain.specs.BodyViews.{body_of};
 ghost use Rattle.stp_domain.specs.Schemas.{schema_with, schema_read, schemas_read};
@@ -14,10 +15,11 @@ use bumpalo::Bump;
 use bumpalo::collections::into_bump_slice;
 use std::alloc::Global;
 use stp_base::Memory;
-use stp_declared::ActionRow;
-use stp_offence::Offence;
+use stp_condition::Scope;
+use stp_domain_parts::ActionParts;
+use stp_domain_tables::ActionRow;
+use stp_refusal::Offence;
 use stp_schema::{Declared, Objects, Schema};
-use stp_term::Scope;
 
 /// The parameters of an action, as variables.
 fn parameters_of<'a>(alloc: Global, names: &[&'a [u8]], kinds: &[u32]) -> Result<Scope<'a>, Memory>
@@ -35,14 +37,23 @@ fn parameters_of<'a>(alloc: Global, names: &[&'a [u8]], kinds: &[u32]) -> Result
     Ok(scope)
 }
 
+/// Whether a condition stands in the text of an action.
+fn has_condition(action: &ActionParts<'_>) -> bool
+    ensures { result ≡ is_some (action_of action.now).condition }
+{
+    action.condition.is_some()
+}
+
 /// A schema, whose conditions are put into the arena.
 fn schema_from<'a>(
     arena: &'a Bump,
     name: &'a [u8],
     parameters: &'a [u32],
+    has_condition: bool,
     body: Body<'a>,
 ) -> Result<Schema<'a>, Memory>
-    ensures schema { IfOk result (λ r. schema_of r ≡ schema_with name.entry.now parameters.entry.now (body_of body.entry)) }
+    ensures schema { IfOk result
+        (λ r. schema_of r ≡ schema_with name.entry.now parameters.entry.now has_condition (body_of body.entry)) }
     ensures name { IfOk result (λ r. r.name.now ≡ name.entry.now) }
 {
     let start_cond = arena.try_alloc(body.start_cond)?;
@@ -52,6 +63,7 @@ fn schema_from<'a>(
         name,
         parameters,
         timing: body.timing,
+        has_condition,
         start_cond,
         over_all,
         end_cond,
@@ -79,7 +91,8 @@ fn read_schema<'a>(
     let mut scope = parameters_of(alloc, row.names, row.kinds)?;
     let action = row.action;
     let body = read_body(alloc, arena, declared, objects, &mut scope, &action, first)?;
-    let schema = schema_from(arena, action.name, row.kinds, body)?;
+    let conditioned = has_condition(&action);
+    let schema = schema_from(arena, action.name, row.kinds, conditioned, body)?;
     Ok(schema)
 }
 

@@ -1,21 +1,29 @@
 -- The atoms, the steps and the box of placed steps.
-use Rattle.std.proofs.Common.{◌≡◌, ℕ, ◌+◌, ◌<◌, ◌≤◌, Bool, List, [], ◌∷◌, ◌++◌, length, map, drop, get_or, Some, None, Result, Ok, Err, sym, ap, ◌∙◌, append_assoc}
+use Rattle.std.proofs.Common.{◌≡◌, ℕ, ◌+◌, ◌<◌, ◌≤◌, Bool, true, List, [], ◌∷◌, ◌++◌, length, map, drop, get_or, Some, None, Result, Ok, Err, refl, sym, ap, subst, ◌∙◌, append_assoc, arith}
+use Rattle.std.specs.List.{All}
+use Rattle.std.proofs.lemmas.List.Elements.{All-nil}
 use Rattle.std.proofs.lemmas.List.{append-nil, drop_more, drop_all, map_push}
 use Rattle.stp_schema.specs.Views.{PlainProblem}
-use Rattle.stp_atoms.specs.Atoms.{Atom}
+use Rattle.stp_tables.specs.Atoms.{Atom}
 use Rattle.stp_cond.specs.declared.cond.Cond.{Cond}
 use Rattle.stp_cond.specs.Formulas.{view}
-use Rattle.stp_cond.specs.Truth.{meaning_of}
+use Rattle.stp_cond.specs.Truth.{meaning_of, state_of_row}
 use Rattle.stp_instance.specs.Numbered.{with_atoms}
 use Rattle.stp_instance.proofs.Gathered.{with_both}
 use Rattle.stp_ground.specs.Problems.{is_fact, goal_of, initial_atoms, goal_atoms}
 use Rattle.stp_ground.specs.Ground.{atoms_of_chosen, left_of}
 use Rattle.stp_happen.specs.declared.boxes.BoxStep.{BoxStep}
-use Rattle.stp_happen.specs.Boxes.{PlainStep, PlainBox, step_of, steps_of}
+use Rattle.stp_happen.specs.declared.boxes.BoxTimed.{BoxTimed}
+use Rattle.stp_happen.specs.Owners.{PlainStep, PlainTimed, owners_of, timed_before}
+use Rattle.stp_happen.specs.StepViews.{step_of, steps_of, timed_of}
+use Rattle.stp_happen.specs.Sound.{is_ascending}
+use Rattle.stp_happen.specs.SoundBox.{IsBoxTimed}
+use Rattle.stp_happen.specs.Boxes.{PlainBox}
 use Rattle.stp_plan.specs.Steps as steps
 use Rattle.stp_exec.specs.declared.fault.ExecFault.{ExecFault}
 use Rattle.stp_exec.specs.declared.placed.Placed.{Placed}
-use Rattle.stp_exec.specs.Faults.{◌>>=◌, unless}
+use Rattle.stp_base.specs.Results.{◌>>=◌}
+use Rattle.stp_exec.specs.Faults.{unless}
 use Rattle.stp_exec.specs.Placed.{PlainPlaced, placed_from}
 use Rattle.stp_exec.specs.Views.{plain_placed}
 use Rattle.stp_exec.specs.Plans.{meaning, step_in, atoms_of_steps, atoms_of_plan, box_over, box_on, grid_of_plan, box_of_plan}
@@ -72,14 +80,20 @@ stepped_all made steps i placed h so_far =
 
 -- ---- the box
 
-abbrev pub the_box : List PlainStep → List Bool → Cond → PlainBox
-the_box steps initial goal = record { steps = steps; initial = initial; goal = meaning_of goal }
+abbrev pub the_box : List PlainStep → List PlainTimed → List Bool → Cond → PlainBox
+the_box steps timed initial goal = record { owners = owners_of steps timed; initial = state_of_row initial; goal = meaning_of goal }
 
 module _ (p : PlainProblem) (table : List Atom) (grid : ℕ) (placed : List PlainPlaced) where
-  pub box_is : (steps : List PlainStep) (initial : List Bool) (goal : Cond) → table ≡ atoms_of_plan p placed → steps ≡ map (step_in p table grid placed) placed → initial ≡ map (is_fact p) table → view goal ≡ left_of p table (goal_of p) → the_box steps initial goal ≡ box_on grid p placed
-  box_is steps initial goal numbered stepped first left =
-      (λ i. record { steps = stepped i; initial = first i; goal = (meaning_is goal ∙ ap meaning left) i })
+  pub box_is : (steps : List PlainStep) (timed : List PlainTimed) (initial : List Bool) (goal : Cond) → table ≡ atoms_of_plan p placed → steps ≡ map (step_in p table grid placed) placed → timed ≡ [] → initial ≡ map (is_fact p) table → view goal ≡ left_of p table (goal_of p) → the_box steps timed initial goal ≡ box_on grid p placed
+  box_is steps timed initial goal numbered stepped none first left =
+      (λ i. record { owners = owners_of (stepped i) (none i); initial = state_of_row (first i); goal = (meaning_is goal ∙ ap meaning left) i })
       ∙ ap (λ t. box_over p t grid placed) numbered
+
+-- a box of a plan alone has no events of the environment
+pub no_events : (grid n : ℕ) (timed : List BoxTimed) → timed ≡ [] → (length timed ≤ 130) × All (IsBoxTimed grid n) timed × (is_ascending timed_before (timed_of timed) ≡ true)
+no_events grid n timed e =
+    subst (λ (l : List BoxTimed). (length l ≤ 130) × All (IsBoxTimed grid n) l × (is_ascending timed_before (timed_of l) ≡ true)) (sym e)
+    (omega arith, All-nil (IsBoxTimed grid n), refl)
 
 -- ---- the box of a plan
 

@@ -5,19 +5,19 @@ use Rattle.std.specs.Ordering.{is_eq, is_le}
 use Rattle.std.specs.Cmp.{int_cmp_is}
 use Rattle.std.proofs.lemmas.List.Elements.{All-nil, All-cons}
 use Rattle.stp_frac.specs.declared.frac.Frac.{Frac}
-use Rattle.stp_frac.specs.Fractions.{Fraction, value_of, order_of}
+use Rattle.stp_frac.specs.Fractions.{Fraction, value_of, order_of, zero, is_at_most}
 use Rattle.stp_frac.proofs.Divisors.{both_true, left_true}
 use Rattle.stp_frac.proofs.Values.{value_is_lowest}
-use Rattle.stp_offence.specs.declared.code.Code.{Code}
-use Rattle.stp_offence.specs.declared.code.Code.TheVariants.{X06, X07, X08, X09}
-use Rattle.stp_value.specs.Durations as durations
-use Rattle.stp_value.specs.Durations.{PlainDuration, zero, is_at_most}
+use Rattle.stp_refusal.specs.declared.code.Code.{Code}
+use Rattle.stp_refusal.specs.declared.code.Code.TheVariants.{X06, X07, X08, X09}
+use Rattle.stp_task.specs.Durations as durations
+use Rattle.stp_task.specs.Durations.{PlainDuration}
 use Rattle.stp_plan.specs.Steps.{PlainBracket, NoBracket, Exactly, AnyNumber, Between}
-use Rattle.stp_timing.specs.declared.held.Held.{Held}
-use Rattle.stp_timing.specs.declared.held.Held.TheVariants as helds
-use Rattle.stp_timing.specs.declared.timed.TimedStep.{TimedStep}
-use Rattle.stp_timing.specs.Held.{PlainHeld, Instant, Fixed, Open, plain_held, is_same, is_within, is_pair, held_of}
-use Rattle.stp_timing.specs.Timed.{plain_timed}
+use Rattle.stp_exec.specs.declared.held.Held.{Held}
+use Rattle.stp_exec.specs.declared.held.Held.TheVariants as helds
+use Rattle.stp_exec.specs.declared.timed_step.TimedStep.{TimedStep}
+use Rattle.stp_exec.specs.Held.{PlainHeld, Instant, Fixed, Open, plain_held, is_same, is_within, is_pair, held_of}
+use Rattle.stp_exec.specs.Timed.{plain_timed}
 use Rattle.stp_exec.specs.Times.{fits}
 use Rattle.stp_exec.specs.Plans.{IsReduced, numbers_of, HasLowestTerms}
 

@@ -1,5 +1,13 @@
+pub mod Multiples
+pub mod TimedSteps
+pub mod Bounds
+pub mod Lawful
+pub mod LeastGrids
+pub mod Entries
+pub mod Fits
 pub mod Fitting
 pub mod PlacedSteps
+pub mod ActionWords
 pub mod Stepping
 pub mod Limits
 pub mod Boxing

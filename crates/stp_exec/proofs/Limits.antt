@@ -5,8 +5,8 @@ use Rattle.std.specs.List.{All}
 use Rattle.std.proofs.lemmas.Bool.Decides.{nat_tests}
 use Rattle.std.proofs.lemmas.List.Elements.{All-nil, All-cons, All-head, All-tail, All-map}
 use Rattle.stp_frac.specs.Fractions.{up_to}
-use Rattle.stp_timing.specs.declared.timed.TimedStep.{TimedStep}
-use Rattle.stp_timing.specs.Timed.{PlainTimed, plain_timed, is_lawful_timed, base_grid, lies_on, is_too_late, late_from, first_too_late}
+use Rattle.stp_exec.specs.declared.timed_step.TimedStep.{TimedStep}
+use Rattle.stp_exec.specs.Timed.{PlainTimed, plain_timed, is_lawful_timed, base_grid, lies_on, is_too_late, late_from, first_too_late}
 use Rattle.stp_exec.specs.declared.fault.ExecFault.TheVariants.{GridTooFine}
 use Rattle.stp_exec.specs.declared.placed.Placed.{Placed}
 use Rattle.stp_exec.specs.Times.{IsTimely}

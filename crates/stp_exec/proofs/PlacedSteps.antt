@@ -6,7 +6,7 @@ use Rattle.std.proofs.Math.ListN.{get_or-map}
 use Rattle.std.proofs.lemmas.List.Elements.{All-nil, All-cons, All-head, All-tail, All-map}
 use Rattle.stp_frac.specs.Fractions.{is_below_zero}
 use Rattle.stp_frac.proofs.Divisors.{both_true}
-use Rattle.stp_offence.specs.declared.code.Code.{Code}
+use Rattle.stp_refusal.specs.declared.code.Code.{Code}
 use Rattle.stp_schema.specs.Views.{PlainProblem}
 use Rattle.stp_ground.specs.declared.fault.InstanceFault.{InstanceFault}
 use Rattle.stp_ground.specs.declared.fault.InstanceFault.TheVariants.{UnknownAction, WrongCount, UnknownObject, WrongType, NoDuration, Memory}
@@ -15,11 +15,12 @@ use Rattle.stp_plan.specs.declared.steps.Step.{Step}
 use Rattle.stp_plan.specs.Laws.{IsAbove, IsLawfulPlan, bracket_numbers}
 use Rattle.stp_plan.specs.Steps.{PlainStep}
 use Rattle.stp_plan.specs.Views.{plain_step}
-use Rattle.stp_timing.specs.Held.{PlainHeld, held_of}
+use Rattle.stp_exec.specs.Held.{PlainHeld, held_of}
 use Rattle.stp_exec.specs.declared.fault.ExecFault.{ExecFault}
 use Rattle.stp_exec.specs.declared.fault.ExecFault.TheVariants as faults
 use Rattle.stp_exec.specs.declared.placed.Placed.{Placed}
-use Rattle.stp_exec.specs.Faults.{◌>>=◌, code_of, coded, step_number, at_step, unless}
+use Rattle.stp_base.specs.Results.{◌>>=◌}
+use Rattle.stp_exec.specs.Faults.{code_of, coded, step_number, at_step, unless}
 use Rattle.stp_exec.specs.Placed.{PlainPlaced, placed_at, placed_step, placed_from}
 use Rattle.stp_exec.specs.Views.{plain_placed}
 use Rattle.stp_exec.specs.Plans.{HasLowestTerms, IsStepOf, IsPlan}
@@ -180,7 +181,7 @@ module _ (p : PlainProblem) (s : PlainStep) where
   chosen_is (Ok c) e = chosen_held c e (held_of c.duration s.bracket)
   chosen_is (Err fault) e = tt
 
-  choice_is : (x : PlainPlaced) → placed_step p s ≡ Ok x → IsChoiceOf p s x
+  pub choice_is : (x : PlainPlaced) → placed_step p s ≡ Ok x → IsChoiceOf p s x
   choice_is x e = subst (λ (r : Result PlainPlaced Code). IfOk r (IsChoiceOf p s)) e (chosen_is (chosen_by p s.name s.args) refl)
 
 same_list : (xs : List ℕ) → bytes_eq xs xs ≡ true

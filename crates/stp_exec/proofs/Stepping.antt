@@ -3,8 +3,7 @@ use Rattle.std.proofs.Common.{◌≡◌, ◌≢◌, ℕ, ◌<◌, Bool, true, fa
 use Rattle.std.specs.Prelude.{◌&&◌, ◌==◌, bytes_eq, is_some, option_map}
 use Rattle.std.specs.Cmp.Lexicographic.{pointwise}
 use Rattle.stp_base.specs.declared.ids.ObjectId.{ObjectId}
-use Rattle.stp_atoms.specs.Asked.{is_same_object}
-use Rattle.stp_binding.specs.Bindings.{numbers_of}
+use Rattle.stp_instance.specs.Bindings.{numbers_of}
 use Rattle.stp_cond.specs.declared.cond.Cond.{Cond}
 use Rattle.stp_cond.specs.declared.event.Event.{Event}
 use Rattle.stp_cond.specs.Events.{event_of}
@@ -12,15 +11,16 @@ use Rattle.stp_cond.specs.Formulas.{view}
 use Rattle.stp_cond.specs.Truth.{meaning_of}
 use Rattle.stp_cond.specs.Views.{atoms_of}
 use Rattle.stp_cond.proofs.Shapes.{truth_is_of_shape}
-use Rattle.stp_value.specs.Durations as durations
-use Rattle.stp_value.specs.Durations.{PlainDuration}
+use Rattle.stp_task.specs.Durations as durations
+use Rattle.stp_task.specs.Durations.{PlainDuration}
 use Rattle.stp_task.specs.declared.action.GroundAction.{GroundAction}
 use Rattle.stp_task.specs.Actions.{PlainAction, happening_of, action_of}
-use Rattle.stp_task.specs.Lawful.{lasts}
-use Rattle.stp_timing.specs.declared.moments.Moments.{Moments}
-use Rattle.stp_timing.specs.Held.{PlainHeld, Instant, Fixed, Open}
-use Rattle.stp_timing.specs.Timed.{PlainTimed, count_of, ends_of, moments_of}
-use Rattle.stp_happen.specs.Boxes.{PlainStep, last_event_of}
+use Rattle.stp_task.specs.Durations.{lasts}
+use Rattle.stp_exec.specs.declared.moments.Moments.{Moments}
+use Rattle.stp_exec.specs.Held.{PlainHeld, Instant, Fixed, Open}
+use Rattle.stp_exec.specs.Timed.{PlainTimed, count_of, ends_of, moments_of}
+use Rattle.stp_happen.specs.Owners.{PlainStep}
+use Rattle.stp_happen.specs.StepViews.{some_event_of}
 use Rattle.stp_exec.specs.Times.{takes_time, is_open, fits}
 use Rattle.stp_exec.specs.Plans.{meaning, event_in, step_with}
 
@@ -32,7 +32,7 @@ meaning_is cond = λ i state. truth_is_of_shape state cond i
 pub event_is : (e : Event) → event_of e ≡ event_in (happening_of e)
 event_is e = λ i. record { cond = meaning_is e.cond.now i; reads = atoms_of e.reads.now; adds = atoms_of e.adds.now; dels = atoms_of e.dels.now }
 
-last_is : (last : Option Event) → last_event_of last ≡ option_map event_in (option_map happening_of last)
+last_is : (last : Option Event) → some_event_of last ≡ option_map event_in (option_map happening_of last)
 last_is None = refl
 last_is (Some e) = ap Some (event_is e)
 
@@ -45,7 +45,7 @@ step_of_action moments uncertain key a = record {
   uncertain = uncertain;
   key = key;
   first = event_of a.start;
-  last = last_event_of a.finish;
+  last = some_event_of a.finish;
   over = meaning_of a.over.now;
 }
 
@@ -108,6 +108,9 @@ module _ (grid : ℕ) (t : PlainTimed) (moments : Moments) (is : moments ≡ mom
       (ap (λ (m : Moments). m.start) is ∙ at_once.0 ∙ sym (ap (λ (m : Moments). m.low) is), at_once.1)
 
 -- ---- actions
+
+abbrev is_same_object : ObjectId → ObjectId → Bool
+is_same_object a b = a.0 == b.0
 
 same_objects : (xs ys : List ObjectId) → pointwise is_same_object xs ys ≡ bytes_eq (numbers_of xs) (numbers_of ys)
 same_objects [] [] = refl

@@ -1,22 +1,24 @@
 -- The box of a plan, or its first refusal.
 use Rattle.std.specs.Prelude.{ℕ, nat_le, if◌then◌else◌, List, Option, Some, option_map, Result, Ok}
+use Rattle.stp_base.specs.declared.limits.TheConstants.{MAX_GRID}
 use Rattle.stp_schema.specs.Views.{PlainProblem}
 use Rattle.stp_plan.specs.Steps.{PlainStep}
-use Rattle.stp_timing.specs.Timed.{PlainTimed, base_grid, first_too_late}
+use Rattle.stp_exec.specs.Timed.{PlainTimed, base_grid, first_too_late}
 use Rattle.stp_happen.specs.Boxes.{PlainBox}
 use Rattle.stp_exec.specs.declared.fault.ExecFault.{ExecFault}
 use Rattle.stp_exec.specs.declared.fault.ExecFault.TheVariants.{GridTooFine, TimeTooLarge}
-use Rattle.stp_exec.specs.Faults.{◌>>=◌, step_number, unless}
+use Rattle.stp_base.specs.Results.{◌>>=◌}
+use Rattle.stp_exec.specs.Faults.{step_number, unless}
 use Rattle.stp_exec.specs.Placed.{PlainPlaced, placed_from, times_of}
 use Rattle.stp_exec.specs.Plans.{grid_of_plan, box_of_plan}
 
 abbrev pub too_large : ℕ → ExecFault
 too_large n = TimeTooLarge (step_number n)
 
--- the first limit that times go beyond: a base grid of 999,999,999, and then the time 999,999,999 at the first step that
--- starts, or may end, after it
+-- the first limit that times go beyond: that of grids, and then that of times at the first step that starts, or may end,
+-- after it
 abbrev pub beyond : List PlainTimed → Option ExecFault
-beyond times = if nat_le (base_grid times) 999999999 then option_map too_large (first_too_late times) else Some GridTooFine
+beyond times = if nat_le (base_grid times) MAX_GRID then option_map too_large (first_too_late times) else Some GridTooFine
 
 abbrev pub beyond_limits : List PlainPlaced → Option ExecFault
 beyond_limits steps = beyond (times_of steps)

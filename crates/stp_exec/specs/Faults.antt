@@ -1,17 +1,12 @@
 -- Why a plan has no box.
 use Rattle.std.specs.Prelude.{ℕ, Result, Ok, Err, Option, Some, None}
 use Rattle.stp_base.specs.declared.ids.StepId.{StepId}
-use Rattle.stp_offence.specs.declared.code.Code.{Code}
-use Rattle.stp_offence.specs.declared.code.Code.TheVariants.{X01, X02, X03, X04, X05, N00}
+use Rattle.stp_refusal.specs.declared.code.Code.{Code}
+use Rattle.stp_refusal.specs.declared.code.Code.TheVariants.{X01, X02, X03, X04, X05, N00}
 use Rattle.stp_ground.specs.declared.fault.InstanceFault.{InstanceFault}
 use Rattle.stp_ground.specs.declared.fault.InstanceFault.TheVariants.{UnknownAction, WrongCount, UnknownObject, WrongType, NoDuration, Memory}
 use Rattle.stp_exec.specs.declared.fault.ExecFault.{ExecFault}
 use Rattle.stp_exec.specs.declared.fault.ExecFault.TheVariants.{Step}
-
-infixl 10 ◌>>=◌
-abbrev pub ◌>>=◌ : {A B E : Type 0} → Result A E → (A → Result B E) → Result B E
-Ok x >>= f = f x
-Err e >>= f = Err e
 
 -- the code of the reason why a name and arguments choose nothing; want of memory has none
 abbrev pub code_of : InstanceFault → Code

@@ -14,3 +14,7 @@ PlacedStepsArePlans = (p : PlainProblem) (plan : List PlainStep) (placed : List 
 -- steps with the same name and arguments are of one action
 abbrev pub SameWordsAreOneAction : Type 0
 SameWordsAreOneAction = (p : PlainProblem) (s t : PlainStep) (x y : PlainPlaced) → placed_step p s ≡ Ok x → placed_step p t ≡ Ok y → s.name ≡ t.name → s.args ≡ t.args → is_one_action x y ≡ true
+
+-- and steps of one action have the same name and arguments
+abbrev pub OneActionHasSameWords : Type 0
+OneActionHasSameWords = (p : PlainProblem) (s t : PlainStep) (x y : PlainPlaced) → placed_step p s ≡ Ok x → placed_step p t ≡ Ok y → is_one_action x y ≡ true → (s.name ≡ t.name) × (s.args ≡ t.args)

@@ -1,3 +1,8 @@
+pub mod Held
+pub mod Timed
+pub mod Lists
+pub mod Fitting
+pub mod GridLaws
 pub mod Times
 pub mod Faults
 pub mod Placed

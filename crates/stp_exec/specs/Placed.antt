@@ -1,14 +1,15 @@
 -- The steps of a plan in their places.
 use Rattle.std.specs.Prelude.{ℕ, ◌+◌, List, [], ◌∷◌, map, Result, Ok}
 use Rattle.stp_frac.specs.Fractions.{Fraction}
-use Rattle.stp_offence.specs.declared.code.Code.{Code}
+use Rattle.stp_refusal.specs.declared.code.Code.{Code}
 use Rattle.stp_schema.specs.Views.{PlainProblem}
 use Rattle.stp_ground.specs.Chosen.{PlainChosen, chosen_by}
 use Rattle.stp_plan.specs.Steps.{PlainStep}
-use Rattle.stp_timing.specs.Held.{PlainHeld, held_of}
-use Rattle.stp_timing.specs.Timed.{PlainTimed}
+use Rattle.stp_exec.specs.Held.{PlainHeld, held_of}
+use Rattle.stp_exec.specs.Timed.{PlainTimed}
 use Rattle.stp_exec.specs.declared.fault.ExecFault.{ExecFault}
-use Rattle.stp_exec.specs.Faults.{◌>>=◌, coded, at_step}
+use Rattle.stp_base.specs.Results.{◌>>=◌}
+use Rattle.stp_exec.specs.Faults.{coded, at_step}
 
 -- a step of a plan in a problem: what it chooses, when it starts and how long it lasts
 pub record PlainPlaced : Type 0 where

@@ -4,18 +4,20 @@ use Rattle.std.specs.List.{position_or_len}
 use Rattle.stp_frac.specs.Divisors.{gcd}
 use Rattle.stp_frac.specs.Fractions.{Fraction, is_below_zero}
 use Rattle.stp_schema.specs.Views.{PlainProblem}
-use Rattle.stp_atoms.specs.Atoms.{Atom}
+use Rattle.stp_tables.specs.Atoms.{Atom}
 use Rattle.stp_cond.specs.Atoms.{PlainEvent}
+use Rattle.stp_cond.specs.Truth.{state_of_row}
 use Rattle.stp_cond.specs.Formulas.{Formula, holds_in}
 use Rattle.stp_task.specs.Actions.{PlainAction, PlainHappening}
 use Rattle.stp_instance.specs.Numbered.{with_atoms}
 use Rattle.stp_ground.specs.Problems.{is_fact, goal_of, initial_atoms, goal_atoms}
 use Rattle.stp_ground.specs.Chosen.{PlainChosen, chosen_by}
 use Rattle.stp_ground.specs.Ground.{atoms_of_chosen, left_of, action_by}
-use Rattle.stp_timing.specs.declared.moments.Moments.{Moments}
-use Rattle.stp_timing.specs.Held.{PlainHeld, Instant, Fixed, Open}
-use Rattle.stp_timing.specs.Timed.{PlainTimed, base_grid, moments_of}
-use Rattle.stp_happen.specs.Boxes.{PlainStep, PlainBox, IsStrong}
+use Rattle.stp_exec.specs.declared.moments.Moments.{Moments}
+use Rattle.stp_exec.specs.Held.{PlainHeld, Instant, Fixed, Open}
+use Rattle.stp_exec.specs.Timed.{PlainTimed, base_grid, moments_of}
+use Rattle.stp_happen.specs.Owners.{PlainStep, owners_of}
+use Rattle.stp_happen.specs.Boxes.{PlainBox, IsStrong}
 use Rattle.stp_exec.specs.Times.{is_open, fits}
 use Rattle.stp_exec.specs.Placed.{PlainPlaced, times_of}
 
@@ -97,8 +99,8 @@ step_in p table grid steps s = step_with (moments_of grid s.timed) (is_open s.ti
 -- the box of steps on a grid, over a table of atoms
 abbrev pub box_over : PlainProblem → List Atom → ℕ → List PlainPlaced → PlainBox
 box_over p table grid steps = record {
-  steps = map (step_in p table grid steps) steps;
-  initial = map (is_fact p) table;
+  owners = owners_of (map (step_in p table grid steps) steps) [];
+  initial = state_of_row (map (is_fact p) table);
   goal = meaning (left_of p table (goal_of p));
 }
 

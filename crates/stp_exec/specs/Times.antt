@@ -1,9 +1,9 @@
 -- How long steps last, beside how long their actions may last.
 use Rattle.std.specs.Prelude.{◌≡◌, ℕ, Bool, true, false}
-use Rattle.stp_value.specs.Durations as durations
-use Rattle.stp_value.specs.Durations.{PlainDuration}
-use Rattle.stp_timing.specs.Held.{PlainHeld, Instant, Fixed, Open, is_within, is_pair}
-use Rattle.stp_timing.specs.Timed.{PlainTimed, lies_on, is_too_late}
+use Rattle.stp_task.specs.Durations as durations
+use Rattle.stp_task.specs.Durations.{PlainDuration}
+use Rattle.stp_exec.specs.Held.{PlainHeld, Instant, Fixed, Open, is_within, is_pair}
+use Rattle.stp_exec.specs.Timed.{PlainTimed, lies_on, is_too_late}
 
 -- whether a step takes time
 abbrev pub takes_time : PlainHeld → Bool
@@ -30,7 +30,7 @@ fits (durations.Uncertain least most) Instant = false
 fits (durations.Uncertain least most) (Fixed duration) = false
 fits (durations.Uncertain least most) (Open low high) = is_pair least most low high
 
--- a step that lies on a grid, and neither starts nor may end after 999,999,999
+-- a step that lies on a grid, and neither starts nor may end after the greatest time
 pub record IsTimely (grid : ℕ) (t : PlainTimed) : Type 0 where
   pub lies : lies_on grid t ≡ true
   pub early : is_too_late t ≡ false

@@ -1,6 +1,6 @@
 -- What the program's values stand for.
 use Rattle.stp_ground.specs.Views.{chosen_view}
-use Rattle.stp_timing.specs.Timed.{plain_timed}
+use Rattle.stp_exec.specs.Timed.{plain_timed}
 use Rattle.stp_exec.specs.declared.placed.Placed.{Placed}
 use Rattle.stp_exec.specs.Placed.{PlainPlaced}
 

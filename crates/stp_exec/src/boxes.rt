@@ -1,12 +1,13 @@
 //! The boxes of plans.
 
 ghost use Rattle.std.specs.Prelude.{◌≡◌, ◌≢◌, ◌≤◌, true, length, map, Some, None, All, IfOk, MatchResult, Ok, Err};
+ghost use Rattle.stp_base.specs.declared.limits.TheConstants.{MAX_GRID, MAX_STEPS};
 ghost use Rattle.stp_schema.specs.Views.{problem_of};
 ghost use Rattle.stp_plan.specs.Laws.{IsAbove, IsLawfulPlan};
 ghost use Rattle.stp_plan.specs.Views.{plain_plan};
 ghost use Rattle.stp_ground.specs.Worlds.{problem_in};
-ghost use Rattle.stp_timing.specs.Timed.{plain_timed, is_lawful_timed, base_grid};
-ghost use Rattle.stp_happen.specs.Boxes.{plain_box};
+ghost use Rattle.stp_exec.specs.Timed.{plain_timed, is_lawful_timed, base_grid};
+ghost use Rattle.stp_happen.specs.BoxViews.{plain_box};
 ghost use Rattle.stp_exec.specs.Times.{IsTimely};
 ghost use Rattle.stp_exec.specs.Plans.{grid_of_plan, box_on, box_of_plan};
 ghost use Rattle.stp_exec.specs.Boxed.{beyond, beyond_limits, box_or_fault};
@@ -18,25 +19,25 @@ use crate::placed::Placed;
 use crate::placing::place;
 use crate::steps::box_steps;
 use crate::times::timed;
+use crate::{TimedStep, first_late, grid_of};
 use bumpalo::Bump;
 use std::alloc::Global;
-use stp_base::Memory;
+use stp_base::{List, Memory};
 use stp_ground::{World, goal_in, initial_row};
 use stp_happen::BoxRun;
 use stp_plan::Plan;
 use stp_schema::Problem;
-use stp_timing::{TimedStep, first_late, grid_of};
 
 /// The base grid of times, or the first limit that they go beyond.
 fn grid_within(times: &[TimedStep]) -> Result<u128, ExecFault>
-    requires few { length times.now ≤ 500 }
+    requires few { length times.now ≤ MAX_STEPS }
     requires lawful { All (λ step. is_lawful_timed (plain_timed step) ≡ true) times.now }
     ensures limits { MatchResult result
         (λ _. beyond (map plain_timed times.now) ≡ None)
         (λ fault. beyond (map plain_timed times.now) ≡ Some fault) }
     ensures base { IfOk result (λ grid. grid ≡ base_grid (map plain_timed times.now)) }
     ensures low { IfOk result (λ grid. 1 ≤ grid) }
-    ensures high { IfOk result (λ grid. grid ≤ 999999999) }
+    ensures high { IfOk result (λ grid. grid ≤ MAX_GRID) }
     ensures timely { IfOk result (λ grid. All (λ step. IsTimely grid (plain_timed step)) times.now) }
 {
     let Some(grid) = grid_of(times) else {
@@ -56,9 +57,9 @@ fn boxed<'a>(
     grid: u128,
     placed: &[Placed<'a>],
 ) -> Result<BoxRun<'a>, Memory>
-    requires few { length placed.now ≤ 500 }
+    requires few { length placed.now ≤ MAX_STEPS }
     requires low { 1 ≤ grid }
-    requires high { grid ≤ 999999999 }
+    requires high { grid ≤ MAX_GRID }
     requires timely { All (λ s. IsTimely grid (plain_timed s.timed)) placed.now }
     ensures grid { IfOk result (λ b. b.grid ≡ grid) }
     ensures stands { IfOk result (λ b. plain_box b ≡ box_on grid (problem_in world.old) (map plain_placed placed.now)) }
@@ -69,9 +70,11 @@ fn boxed<'a>(
     let goal = arena.try_alloc(left)?;
     let initial = initial_row(alloc, world, &table)?;
     let steps = box_steps(alloc, arena, world, &table, grid, placed)?;
+    let timed = List::new(alloc);
     Ok(BoxRun {
         grid,
         steps,
+        timed,
         initial,
         goal,
     })
@@ -85,12 +88,12 @@ pub fn box_placed<'a>(
     world: &mut World<'a>,
     placed: &[Placed<'a>],
 ) -> Result<BoxRun<'a>, ExecFault>
-    requires { length placed.now ≤ 500 }
+    requires { length placed.now ≤ MAX_STEPS }
     ensures limits { MatchResult result
         (λ _. beyond_limits (map plain_placed placed.now) ≡ None)
         (λ fault. fault ≢ ExecFault.Memory → beyond_limits (map plain_placed placed.now) ≡ Some fault) }
     ensures grid { IfOk result (λ b. b.grid ≡ grid_of_plan (map plain_placed placed.now)) }
-    ensures high { IfOk result (λ b. b.grid ≤ 999999999) }
+    ensures high { IfOk result (λ b. b.grid ≤ MAX_GRID) }
     ensures stands { IfOk result (λ b. plain_box b ≡ box_of_plan (problem_in world.old) (map plain_placed placed.now)) }
     ensures same { problem_in world.new ≡ problem_in world.old }
 {

@@ -4,7 +4,7 @@ ghost use Rattle.std.specs.Prelude.{◌≡◌};
 ghost use Rattle.stp_exec.specs.declared.fault.ExecFault.TheVariants.{Memory as OutOfMemory};
 
 use stp_base::{Memory, StepId};
-use stp_offence::Code;
+use stp_refusal::Code;
 use thiserror::Error;
 
 /// Why a plan has no box.

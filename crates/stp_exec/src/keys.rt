@@ -1,6 +1,7 @@
 //! The keys of steps.
 
 ghost use Rattle.std.specs.Prelude.{◌≡◌, ◌≤◌, length, map};
+ghost use Rattle.stp_base.specs.declared.limits.TheConstants.{MAX_STEPS};
 ghost use Rattle.stp_exec.specs.Plans.{is_one_action, key_in};
 ghost use Rattle.stp_exec.specs.Views.{plain_placed};
 
@@ -15,7 +16,7 @@ fn is_one_action(one: &Placed<'_>, other: &Placed<'_>) -> bool
 
 /// The number, from 1, of the first of these steps that is of one action with a step.
 pub(crate) fn key_of(placed: &[Placed<'_>], step: &Placed<'_>) -> u32
-    requires { length placed.now ≤ 500 }
+    requires { length placed.now ≤ MAX_STEPS }
     ensures { result ≡ key_in (map plain_placed placed.now) (plain_placed step.now) }
 {
     for (index, other) in placed.iter().enumerate() {

@@ -1,6 +1,7 @@
 //! Laws of the definitions by which the contracts speak of plans. Nothing here runs.
 
-ghost use Rattle.stp_exec.specs.Laws.{PlacedStepsArePlans, SameWordsAreOneAction};
+ghost use Rattle.stp_exec.specs.Laws.{OneActionHasSameWords, PlacedStepsArePlans, SameWordsAreOneAction};
+ghost use Rattle.stp_exec.specs.GridLaws.{StepsLieOnTheBaseGrid, TheBaseGridIsLeast, FinerGridsKeepMoments};
 
 /// What is placed of steps that start from 0 on is a plan, where its times have lowest terms.
 pub fn placed_steps_are_plans()
@@ -10,4 +11,20 @@ pub fn placed_steps_are_plans()
 /// Steps with the same name and arguments are of one action.
 pub fn same_words_are_one_action()
     ensures { SameWordsAreOneAction }
+{}
+
+/// Steps of one action have the same name and arguments.
+pub fn one_action_has_same_words()
+    ensures { OneActionHasSameWords }
+{}
+
+/// All steps lie on the base grid, and it divides each grid on which all of them lie.
+pub fn base_grids()
+    ensures lie { StepsLieOnTheBaseGrid }
+    ensures least { TheBaseGridIsLeast }
+{}
+
+/// On a finer grid the moments of a step are the same times.
+pub fn finer_grids()
+    ensures { FinerGridsKeepMoments }
 {}

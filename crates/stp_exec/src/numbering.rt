@@ -9,9 +9,9 @@ ghost use Rattle.stp_exec.specs.Views.{plain_placed};
 use crate::placed::Placed;
 use bumpalo::Bump;
 use std::alloc::Global;
-use stp_atoms::AtomTable;
 use stp_base::Memory;
 use stp_ground::{World, number_chosen, number_goal, number_initial};
+use stp_tables::AtomTable;
 
 /// Numbers the fluent atoms of steps in their order.
 fn number_steps(

@@ -1,6 +1,7 @@
 //! Putting the steps of a plan in their places.
 
 ghost use Rattle.std.specs.Prelude.{◌≡◌, ◌≢◌, ◌≤◌, false, length, map, IfOk, MatchResult, Ok, Err};
+ghost use Rattle.stp_base.specs.declared.limits.TheConstants.{MAX_STEPS};
 ghost use Rattle.stp_frac.specs.Fractions.{value_of, is_below_zero};
 ghost use Rattle.stp_plan.specs.Laws.{IsAbove, IsLawfulPlan};
 ghost use Rattle.stp_plan.specs.Views.{plain_step, plain_plan};
@@ -12,13 +13,13 @@ ghost use Rattle.stp_exec.specs.Views.{plain_placed};
 
 use crate::fault::ExecFault;
 use crate::placed::Placed;
+use crate::{TimedStep, hold};
 use bumpalo::Bump;
 use std::alloc::Global;
 use stp_base::{List, StepId};
 use stp_ground::{InstanceFault, World, choose};
-use stp_offence::Code;
 use stp_plan::{Plan, Step};
-use stp_timing::{TimedStep, hold};
+use stp_refusal::Code;
 
 /// The refusal of a step whose name and arguments choose nothing.
 fn not_chosen(number: StepId, fault: InstanceFault) -> ExecFault
@@ -79,7 +80,7 @@ pub fn place<'a>(
         (λ r. placed_from 1 (problem_in world.old) (plain_plan plan.now) ≡ Ok (map plain_placed r))
         (λ fault. fault ≢ ExecFault.Memory → placed_from 1 (problem_in world.old) (plain_plan plan.now) ≡ Err fault) }
     ensures plan { IfOk result (λ r. IsPlan (problem_in world.old) (map plain_placed r)) }
-    ensures few { IfOk result (λ r. length r ≤ 500) }
+    ensures few { IfOk result (λ r. length r ≤ MAX_STEPS) }
     ensures same { problem_in world.new ≡ problem_in world.old }
 {
     let mut placed = List::new(alloc);

@@ -1,10 +1,11 @@
 //! The steps of boxes.
 
 ghost use Rattle.std.specs.Prelude.{◌≡◌, ◌≤◌, length, map, All, IfOk};
+ghost use Rattle.stp_base.specs.declared.limits.TheConstants.{MAX_GRID, MAX_STEPS};
 ghost use Rattle.stp_ground.specs.Worlds.{problem_in};
-ghost use Rattle.stp_timing.specs.Held.{plain_held};
-ghost use Rattle.stp_timing.specs.Timed.{plain_timed};
-ghost use Rattle.stp_happen.specs.Boxes.{step_of, steps_of};
+ghost use Rattle.stp_exec.specs.Held.{plain_held};
+ghost use Rattle.stp_exec.specs.Timed.{plain_timed};
+ghost use Rattle.stp_happen.specs.StepViews.{step_of, steps_of};
 ghost use Rattle.stp_happen.specs.SoundBox.{IsBoxStep};
 ghost use Rattle.stp_exec.specs.Times.{is_open, IsTimely};
 ghost use Rattle.stp_exec.specs.Plans.{step_in};
@@ -12,13 +13,13 @@ ghost use Rattle.stp_exec.specs.Views.{plain_placed};
 
 use crate::keys::key_of;
 use crate::placed::Placed;
+use crate::{Held, moments_on};
 use bumpalo::Bump;
 use std::alloc::Global;
-use stp_atoms::AtomTable;
 use stp_base::{List, Memory};
 use stp_ground::{World, ground};
 use stp_happen::BoxStep;
-use stp_timing::{Held, moments_on};
+use stp_tables::AtomTable;
 
 /// Whether the environment chooses how long a step lasts.
 fn is_open(held: Held) -> bool
@@ -41,9 +42,9 @@ fn box_step<'a>(
     placed: &[Placed<'a>],
     step: &Placed<'a>,
 ) -> Result<BoxStep<'a>, Memory>
-    requires few { length placed.now ≤ 500 }
+    requires few { length placed.now ≤ MAX_STEPS }
     requires low { 1 ≤ grid }
-    requires high { grid ≤ 999999999 }
+    requires high { grid ≤ MAX_GRID }
     requires timely { IsTimely grid (plain_timed step.now.timed) }
     ensures stands { IfOk result (λ r. step_of r ≡ step_in (problem_in world.now) table.now grid (map plain_placed placed.now) (plain_placed step.now)) }
     ensures sound { IfOk result (λ r. IsBoxStep grid (length table.now) r) }
@@ -73,13 +74,13 @@ pub(crate) fn box_steps<'a>(
     grid: u128,
     placed: &[Placed<'a>],
 ) -> Result<List<BoxStep<'a>>, Memory>
-    requires few { length placed.now ≤ 500 }
+    requires few { length placed.now ≤ MAX_STEPS }
     requires low { 1 ≤ grid }
-    requires high { grid ≤ 999999999 }
+    requires high { grid ≤ MAX_GRID }
     requires timely { All (λ s. IsTimely grid (plain_timed s.timed)) placed.now }
     ensures stand { IfOk result (λ r. steps_of r ≡ map (step_in (problem_in world.now) table.now grid (map plain_placed placed.now)) (map plain_placed placed.now)) }
     ensures sound { IfOk result (λ r. All (IsBoxStep grid (length table.now)) r) }
-    ensures few { IfOk result (λ r. length r ≤ 500) }
+    ensures few { IfOk result (λ r. length r ≤ MAX_STEPS) }
 {
     let mut steps = List::new(alloc);
     for step in placed {

@@ -1,14 +1,14 @@
 //! The times of steps.
 
 ghost use Rattle.std.specs.Prelude.{◌≡◌, true, length, map, All, IfOk};
-ghost use Rattle.stp_timing.specs.Timed.{plain_timed, is_lawful_timed};
+ghost use Rattle.stp_exec.specs.Timed.{plain_timed, is_lawful_timed};
 ghost use Rattle.stp_exec.specs.Placed.{times_of};
 ghost use Rattle.stp_exec.specs.Views.{plain_placed};
 
+use crate::TimedStep;
 use crate::placed::Placed;
 use std::alloc::Global;
 use stp_base::Memory;
-use stp_timing::TimedStep;
 
 /// When steps start, and how long they last.
 pub fn timed(alloc: Global, placed: &[Placed<'_>]) -> Result<Vec<TimedStep>, Memory>

@@ -6,3 +6,4 @@ pub mod Reading
 pub mod Spellings
 pub mod Counts
 pub mod Values
+mod Zero

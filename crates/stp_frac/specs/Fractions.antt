@@ -1,6 +1,6 @@
 -- Fractions, and what is done with them.
 use Rattle.std.specs.Prelude.{ℕ, suc, ◌*◌, ◌/◌, ◌^◌, ℤ, pos, negsuc, ◌+ℤ◌, ◌-ℤ◌, ◌*ℤ◌, neg_ℤ, unsigned_abs, Bool, true, false, ◌&&◌, ◌==◌, nat_lt, nat_le, if◌then◌else◌, Option, Some, None}
-use Rattle.std.specs.Ordering.{int_cmp}
+use Rattle.std.specs.Ordering.{int_cmp, is_lt, is_le}
 use Rattle.std.specs.declared.cmp.Ordering.{Ordering}
 use Rattle.stp_frac.specs.Divisors.{gcd, divides}
 use Rattle.stp_frac.specs.declared.frac.Frac.{Frac}
@@ -77,3 +77,12 @@ on_grid_of k f = whole_of (f.top *ℤ pos k) f.bottom
 -- n, where it is at most the limit
 abbrev pub up_to : ℕ → ℕ → Option ℕ
 up_to limit n = if nat_le n limit then Some n else None
+
+abbrev pub zero : Fraction
+zero = record { top = pos 0; bottom = 1 }
+
+abbrev pub is_less : Fraction → Fraction → Bool
+is_less f g = is_lt (order_of f g)
+
+abbrev pub is_at_most : Fraction → Fraction → Bool
+is_at_most f g = is_le (order_of f g)

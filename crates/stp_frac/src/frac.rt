@@ -26,7 +26,7 @@ pub struct Frac {
 
 impl Frac {
     ghost use Rattle.std.specs.Prelude.{option_map, neg_ℤ, pos};
-    ghost use Rattle.stp_frac.specs.Fractions.{value_of, signed, lowest, fraction, sum_of, difference_of, product_of, quotient_of, order_of, whole_of, on_grid_of, up_to};
+    ghost use Rattle.stp_frac.specs.Fractions.{value_of, signed, lowest, fraction, sum_of, difference_of, product_of, quotient_of, order_of, whole_of, on_grid_of, up_to, zero};
 
     /// A fraction in lowest terms, where that is in range.
     #[tactic(auto, unfolding(crate::specs::Fractions::fraction))]
@@ -174,6 +174,16 @@ impl Frac {
             return None;
         }
         Some(count / self.bottom)
+    }
+
+    /// Zero.
+    pub fn zero() -> Frac
+        ensures { value_of result ≡ zero }
+    {
+        let Some(zero) = Frac::from_grid(0, 1) else {
+            unreachable!();
+        };
+        zero
     }
 
     /// n divided by k, where that is in range.

@@ -12,6 +12,3 @@ pub mod units;
 
 pub use fault::NumberFault;
 pub use frac::Frac;
-
-#[cfg(test)]
-mod tests;

@@ -3,7 +3,8 @@ use Rattle.std.proofs.Common.{◌≡◌, ℕ, ◌+◌, ◌<◌, ◌≤◌, List,
 use Rattle.std.proofs.lemmas.List.{append-nil, drop_more, drop_all}
 use Rattle.stp_schema.specs.Views.{PlainProblem}
 use Rattle.stp_ground.specs.declared.fault.InstanceFault.{InstanceFault}
-use Rattle.stp_ground.specs.Chosen.{◌>>=◌, argument, arguments}
+use Rattle.stp_base.specs.Results.{◌>>=◌}
+use Rattle.stp_ground.specs.Chosen.{argument, arguments}
 
 -- objects, and then those that are left
 abbrev pub joined : List ℕ → Result (List ℕ) InstanceFault → Result (List ℕ) InstanceFault

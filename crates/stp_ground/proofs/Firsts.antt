@@ -3,7 +3,7 @@ use Rattle.std.proofs.Common.{◌≡◌, ℕ, ◌+◌, ◌<◌, Bool, List, leng
 use Rattle.std.proofs.lemmas.List.{drop_more}
 use Rattle.stp_schema.specs.declared.problem.Fact.{Fact}
 use Rattle.stp_schema.specs.Views.{fact_of}
-use Rattle.stp_atoms.specs.Atoms.{Atom}
+use Rattle.stp_tables.specs.Atoms.{Atom}
 use Rattle.stp_instance.specs.Numbered.{with_atoms}
 use Rattle.stp_instance.proofs.Gathered.{with_both}
 use Rattle.stp_ground.specs.Problems.{fluent_fact, fluent_facts}

@@ -1,6 +1,6 @@
 -- A table that gains some atoms, and then others.
 use Rattle.std.proofs.Common.{◌≡◌, List, ◌++◌, ap, sym, ◌∙◌}
-use Rattle.stp_atoms.specs.Atoms.{Atom}
+use Rattle.stp_tables.specs.Atoms.{Atom}
 use Rattle.stp_instance.specs.Numbered.{IsGrown, with_atoms}
 use Rattle.stp_instance.proofs.Gathered.{grown_again, with_both}
 

@@ -3,9 +3,10 @@ use Rattle.std.proofs.Common.{◌≡◌, Bool, true, false, ◌||◌, if◌then�
 use Rattle.std.specs.List.{list_any}
 use Rattle.std.proofs.lemmas.List.Folds.{list_any-append}
 use Rattle.stp_schema.specs.Views.{PlainFact}
-use Rattle.stp_atoms.specs.Atoms.{Atom, is_atom, with_atom}
+use Rattle.stp_tables.specs.Atoms.{Atom, is_atom, with_atom}
 use Rattle.stp_instance.specs.Numbered.{is_in, with_atoms}
-use Rattle.stp_instance.proofs.Gained.{in_is, atoms_same}
+use Rattle.stp_tables.proofs.AtomKeys.{atoms_same}
+use Rattle.stp_instance.proofs.Gained.{in_is}
 use Rattle.stp_ground.specs.Problems.{atom_of_fact, is_known}
 
 either_end : (b c : Bool) → (c ≡ true → b ≡ true) → b ≡ (b || c)

@@ -1,11 +1,12 @@
 -- The ground action that is made of what is chosen.
 use Rattle.std.proofs.Common.{◌≡◌, ℕ, List, Result, Ok, Err, ap, sym, ◌∙◌}
 use Rattle.stp_schema.specs.Views.{PlainProblem}
-use Rattle.stp_atoms.specs.Atoms.{Atom}
+use Rattle.stp_tables.specs.Atoms.{Atom}
 use Rattle.stp_task.specs.Actions.{PlainAction}
 use Rattle.stp_instance.specs.Numbered.{with_atoms}
 use Rattle.stp_ground.specs.declared.fault.InstanceFault.{InstanceFault}
-use Rattle.stp_ground.specs.Chosen.{◌>>=◌, PlainChosen, chosen_by}
+use Rattle.stp_base.specs.Results.{◌>>=◌}
+use Rattle.stp_ground.specs.Chosen.{PlainChosen, chosen_by}
 use Rattle.stp_ground.specs.Ground.{action_by, atoms_of_chosen, instance_by}
 
 module _ (p q : PlainProblem) (same : q ≡ p) (name : List ℕ) (names : List (List ℕ)) (old : List Atom) where

@@ -2,17 +2,18 @@
 use Rattle.std.proofs.Common.{◌≡◌, ℕ, ◌<◌, Bool, if◌then◌else◌, List, [], ◌∷◌, length, map, get_or, Option, Some, None, Ok, Err, refl, ap, sym, ◌∙◌}
 use Rattle.std.specs.Prelude.{ok_or, option_map, slice_get}
 use Rattle.std.proofs.lemmas.Option.{slice_get-map, slice_get_read}
-use Rattle.stp_names.specs.Names.{number_of}
+use Rattle.stp_tables.specs.Names.{number_of}
 use Rattle.stp_schema.specs.declared.domain.Schema.{Schema}
 use Rattle.stp_schema.specs.declared.problem.Problem.{Problem}
 use Rattle.stp_schema.specs.declared.rows.ObjectRow.{ObjectRow}
 use Rattle.stp_schema.specs.Rows.{object_names_of, parents_of, thing_names, thing_of}
 use Rattle.stp_schema.specs.Schemas.{schema_names_of, schema_of}
 use Rattle.stp_schema.specs.Views.{problem_of}
-use Rattle.stp_ancestors.specs.Forest.{is_below}
+use Rattle.stp_types.specs.Forest.{is_below}
 use Rattle.stp_instance.proofs.OfType.{kind_at}
 use Rattle.stp_ground.specs.declared.fault.InstanceFault.TheVariants.{UnknownAction, UnknownObject, WrongType}
-use Rattle.stp_ground.specs.Chosen.{◌>>=◌, argument, fitting, named}
+use Rattle.stp_base.specs.Results.{◌>>=◌}
+use Rattle.stp_ground.specs.Chosen.{argument, fitting, named}
 
 names_are : (schemas : List Schema) → map (λ s. s.name) (map schema_of schemas) ≡ schema_names_of schemas
 names_are [] = refl

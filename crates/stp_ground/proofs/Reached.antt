@@ -5,7 +5,7 @@ use Rattle.std.proofs.lemmas.Bool.{and_from, lt-ltb}
 use Rattle.std.proofs.lemmas.List.Elements.{filter_map-append}
 use Rattle.std.proofs.lemmas.List.Quantifiers.{position-Some}
 use Rattle.stp_base.specs.declared.ids.AtomId.{AtomId}
-use Rattle.stp_atoms.specs.Atoms.{Atom, is_atom, number_of}
+use Rattle.stp_tables.specs.Atoms.{Atom, is_atom, number_of}
 use Rattle.stp_cond.specs.declared.cond.Cond.{Cond}
 use Rattle.stp_cond.specs.declared.known.Three.TheVariants.{Unknown}
 use Rattle.stp_cond.specs.Atoms.{has, set_of, without}

@@ -1,13 +1,15 @@
 -- What a name and arguments choose: a schema with objects for its parameters.
 use Rattle.std.specs.Prelude.{ℕ, if◌then◌else◌, ◌==◌, List, [], ◌∷◌, length, map, slice_get, slice_index, Result, Ok, Err}
 use Rattle.std.specs.Option.{ok_or}
-use Rattle.stp_ancestors.specs.Forest.{is_below}
-use Rattle.stp_names.specs.Names.{number_of}
+use Rattle.stp_base.specs.Results.{◌>>=◌}
+use Rattle.stp_types.specs.Forest.{is_below}
+use Rattle.stp_tables.specs.Names.{number_of}
 use Rattle.stp_schema.specs.Rows.{thing_names}
 use Rattle.stp_schema.specs.Schemas.{PlainSchema}
 use Rattle.stp_schema.specs.Views.{PlainProblem}
-use Rattle.stp_atoms.specs.Atoms.{Atom}
-use Rattle.stp_value.specs.Durations.{PlainDuration, duration_of}
+use Rattle.stp_tables.specs.Atoms.{Atom}
+use Rattle.stp_task.specs.Durations.{PlainDuration}
+use Rattle.stp_instance.specs.Timings.{duration_of}
 use Rattle.stp_instance.specs.Expanded.{Claim, expanded}
 use Rattle.stp_instance.specs.Effects.{ground_atoms}
 use Rattle.stp_ground.specs.declared.fault.InstanceFault.{InstanceFault}
@@ -26,11 +28,6 @@ pub record PlainChosen : Type 0 where
   pub start_dels : List Atom
   pub end_adds : List Atom
   pub end_dels : List Atom
-
-infixl 10 ◌>>=◌
-abbrev pub ◌>>=◌ : {A B : Type 0} → Result A InstanceFault → (A → Result B InstanceFault) → Result B InstanceFault
-Ok x >>= f = f x
-Err e >>= f = Err e
 
 -- the first schema of a name, with its number
 abbrev pub named : PlainProblem → List ℕ → Result (ℕ × PlainSchema) InstanceFault

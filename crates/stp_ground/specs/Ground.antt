@@ -1,17 +1,18 @@
 -- The ground action of what is chosen, over a table of numbered atoms.
 use Rattle.std.specs.Prelude.{ℕ, Bool, List, ◌++◌, if◌then◌else◌, Some, None, Result, Ok}
 use Rattle.stp_schema.specs.Views.{PlainProblem}
-use Rattle.stp_atoms.specs.Atoms.{Atom}
+use Rattle.stp_tables.specs.Atoms.{Atom}
 use Rattle.stp_cond.specs.Atoms.{set_of}
 use Rattle.stp_cond.specs.Formulas.{Formula, Always}
 use Rattle.stp_task.specs.Actions.{PlainAction, PlainHappening}
-use Rattle.stp_task.specs.Lawful.{lasts}
+use Rattle.stp_task.specs.Durations.{lasts}
 use Rattle.stp_instance.specs.Expanded.{Claim}
 use Rattle.stp_instance.specs.Numbered.{fluent_atoms, folded_ground, numbers_in, with_atoms}
 use Rattle.stp_instance.specs.Effects.{added, deleted}
 use Rattle.stp_ground.specs.Problems.{is_fact, is_written}
 use Rattle.stp_ground.specs.declared.fault.InstanceFault.{InstanceFault}
-use Rattle.stp_ground.specs.Chosen.{◌>>=◌, PlainChosen, chosen_by}
+use Rattle.stp_base.specs.Results.{◌>>=◌}
+use Rattle.stp_ground.specs.Chosen.{PlainChosen, chosen_by}
 
 -- the fluent atoms of what is chosen, in the order in which they are numbered; an atom that an effect names is fluent
 abbrev pub atoms_in_order : (ℕ → Bool) → PlainChosen → List Atom

@@ -4,7 +4,7 @@ use Rattle.std.specs.List.{list_any}
 use Rattle.stp_schema.specs.Formula.{PlainAtom}
 use Rattle.stp_schema.specs.Schemas.{PlainSchema}
 use Rattle.stp_schema.specs.Views.{PlainFact, PlainProblem}
-use Rattle.stp_atoms.specs.Atoms.{Atom, is_atom}
+use Rattle.stp_tables.specs.Atoms.{Atom, is_atom}
 use Rattle.stp_instance.specs.Expanded.{Claim, objects_below, expanded}
 use Rattle.stp_instance.specs.Numbered.{fluent_atoms}
 

@@ -1,6 +1,6 @@
 -- What is chosen, without pointers.
-use Rattle.stp_binding.specs.Bindings.{numbers_of}
-use Rattle.stp_value.specs.Durations.{plain_duration}
+use Rattle.stp_instance.specs.Bindings.{numbers_of}
+use Rattle.stp_task.specs.Durations.{plain_duration}
 use Rattle.stp_instance.specs.Views.{claim}
 use Rattle.stp_instance.specs.Effects.{written_atoms}
 use Rattle.stp_ground.specs.declared.chosen.Chosen.{Chosen}

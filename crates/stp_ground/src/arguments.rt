@@ -3,8 +3,8 @@
 ghost use Rattle.std.specs.Prelude.{◌≡◌, ◌≢◌, ◌++◌, ◌∷◌, [], length, option_map, ok_or, MatchResult, OnOk, Ok, Err};
 ghost use Rattle.stp_schema.specs.Schemas.{schema_of};
 ghost use Rattle.stp_schema.specs.Views.{problem_of};
-ghost use Rattle.stp_binding.specs.Bindings.{numbers_of};
-ghost use Rattle.stp_ground.specs.Chosen.{argument as argument_lem, arguments as arguments_lem, bound as bound_lem, named as named_lem};
+ghost use Rattle.stp_instance.specs.Bindings.{numbers_of};
+ghost use Rattle.stp_ground.specs.Chosen.{argument, arguments, bound, named};
 
 use crate::fault::InstanceFault;
 use std::alloc::Global;
@@ -13,7 +13,7 @@ use stp_schema::{Problem, Schema};
 
 /// The schema of a name, with its number.
 pub(crate) fn named<'a>(problem: &Problem<'a>, name: &[u8]) -> Option<(u32, Schema<'a>)>
-    ensures { named_lem (problem_of problem.now) name.now ≡ ok_or (option_map (λ r. (r.0, schema_of r.1)) result) InstanceFault.UnknownAction }
+    ensures { named (problem_of problem.now) name.now ≡ ok_or (option_map (λ r. (r.0, schema_of r.1)) result) InstanceFault.UnknownAction }
 {
     let Some(number) = problem.domain.find_schema(name) else {
         return None;
@@ -24,8 +24,8 @@ pub(crate) fn named<'a>(problem: &Problem<'a>, name: &[u8]) -> Option<(u32, Sche
 /// The object of a name, for a parameter of a type.
 fn argument(problem: &Problem<'_>, kind: u32, name: &[u8]) -> Result<ObjectId, InstanceFault>
     ensures { MatchResult result
-        (λ o. argument_lem (problem_of problem.now) kind name.now ≡ Ok o.0)
-        (λ fault. argument_lem (problem_of problem.now) kind name.now ≡ Err fault) }
+        (λ o. argument (problem_of problem.now) kind name.now ≡ Ok o.0)
+        (λ fault. argument (problem_of problem.now) kind name.now ≡ Err fault) }
 {
     let Some(object) = problem.find_object(name) else {
         return Err(InstanceFault::UnknownObject);
@@ -56,8 +56,8 @@ fn arguments(
 ) -> Result<Vec<ObjectId>, InstanceFault>
     requires { length kinds.now ≡ length names.now }
     ensures { MatchResult result
-        (λ r. arguments_lem (problem_of problem.now) kinds.now names.now ≡ Ok (numbers_of r.items))
-        (λ fault. fault ≢ InstanceFault.Memory → arguments_lem (problem_of problem.now) kinds.now names.now ≡ Err fault) }
+        (λ r. arguments (problem_of problem.now) kinds.now names.now ≡ Ok (numbers_of r.items))
+        (λ fault. fault ≢ InstanceFault.Memory → arguments (problem_of problem.now) kinds.now names.now ≡ Err fault) }
 {
     let mut objects = Vec::new(alloc);
     for (place, kind) in kinds.iter().enumerate() {
@@ -75,8 +75,8 @@ pub(crate) fn bound(
     names: &[Text],
 ) -> Result<Vec<ObjectId>, InstanceFault>
     ensures { MatchResult result
-        (λ r. bound_lem (problem_of problem.now) kinds.now names.now ≡ Ok (numbers_of r.items))
-        (λ fault. fault ≢ InstanceFault.Memory → bound_lem (problem_of problem.now) kinds.now names.now ≡ Err fault) }
+        (λ r. bound (problem_of problem.now) kinds.now names.now ≡ Ok (numbers_of r.items))
+        (λ fault. fault ≢ InstanceFault.Memory → bound (problem_of problem.now) kinds.now names.now ≡ Err fault) }
 {
     if kinds.len() != names.len() {
         return Err(InstanceFault::WrongCount);

@@ -6,8 +6,8 @@ ghost use Rattle.stp_cond.specs.Formulas.{view};
 ghost use Rattle.stp_cond.specs.Truth.{is_below};
 ghost use Rattle.stp_instance.specs.Numbered.{is_fluent, IsGrown, with_atoms};
 ghost use Rattle.stp_instance.specs.Views.{claim};
-ghost use Rattle.stp_ground.specs.Problems.{fluent_fact, fluent_facts, goal_atoms, goal_of as goal_of_lem, initial_atoms};
-ghost use Rattle.stp_ground.specs.Ground.{left_of as left_of_lem};
+ghost use Rattle.stp_ground.specs.Problems.{fluent_fact, fluent_facts, goal_atoms, goal_of, initial_atoms};
+ghost use Rattle.stp_ground.specs.Ground.{left_of};
 ghost use Rattle.stp_ground.specs.Worlds.{problem_in};
 
 use crate::choosing::expanded;
@@ -15,28 +15,18 @@ use crate::grounding::left_of;
 use crate::world::World;
 use bumpalo::Bump;
 use std::alloc::Global;
-use stp_atoms::AtomTable;
 use stp_base::Memory;
 use stp_cond::Cond;
-use stp_instance::{Ground, number_atoms};
+use stp_instance::{Ground, is_fluent, number_atoms};
 use stp_schema::Fact;
-
-/// Whether a predicate is fluent.
-fn is_marked(fluent: &[bool], predicate: u32) -> bool
-    ensures { result ≡ is_fluent fluent.now predicate }
-{
-    match fluent.get(predicate as usize) {
-        Some(mark) => *mark,
-        None => false,
-    }
-}
+use stp_tables::AtomTable;
 
 /// Numbers a fact where it is fluent.
 fn number_fact(table: &mut AtomTable, fluent: &[bool], fact: &Fact<'_>) -> Result<(), Memory>
     ensures atoms { OnOk result (table.new ≡ with_atoms table.old (fluent_fact (is_fluent fluent.now) (fact_of fact.now))) }
     ensures grown { IsGrown table.old table.new }
 {
-    if is_marked(fluent, fact.predicate) {
+    if is_fluent(fluent, fact.predicate) {
         table.number(fact.predicate, fact.args)?;
     }
     Ok(())
@@ -65,7 +55,7 @@ pub fn number_initial(world: &World<'_>, table: &mut AtomTable) -> Result<(), Me
 
 /// The goal over ground atoms.
 fn goal_of<'a>(alloc: Global, arena: &'a Bump, world: &mut World<'a>) -> Result<Ground<'a>, Memory>
-    ensures goal { IfOk result (λ r. claim r ≡ goal_of_lem (problem_in world.old)) }
+    ensures goal { IfOk result (λ r. claim r ≡ goal_of (problem_in world.old)) }
     ensures same { problem_in world.new ≡ problem_in world.old }
 {
     let goal = expanded(alloc, arena, &mut world.members, &[], world.problem.goal)?;
@@ -96,7 +86,7 @@ pub fn goal_in<'a>(
     table: &AtomTable,
 ) -> Result<Cond<'a>, Memory>
     ensures left { IfOk result
-        (λ r. view r ≡ left_of_lem (problem_in world.old) table.now (goal_of_lem (problem_in world.old))) }
+        (λ r. view r ≡ left_of (problem_in world.old) table.now (goal_of (problem_in world.old))) }
     ensures in_range { IfOk result (λ r. is_below (length table.now) r ≡ true) }
     ensures same { problem_in world.new ≡ problem_in world.old }
 {

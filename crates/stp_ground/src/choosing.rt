@@ -3,12 +3,13 @@
 ghost use Rattle.std.specs.Prelude.{◌≡◌, ◌≢◌, true, ok_or, IfOk, MatchResult, Ok, Err};
 ghost use Rattle.stp_schema.specs.Formula.{formula};
 ghost use Rattle.stp_schema.specs.Schemas.{schema_of, timing_of};
-ghost use Rattle.stp_binding.specs.Bindings.{numbers_of};
-ghost use Rattle.stp_value.specs.Durations.{duration_of, is_lawful, plain_duration};
-ghost use Rattle.stp_instance.specs.Expanded.{expanded as expanded_lem};
+ghost use Rattle.stp_instance.specs.Bindings.{numbers_of};
+ghost use Rattle.stp_task.specs.Durations.{is_lawful, plain_duration};
+ghost use Rattle.stp_instance.specs.Timings.{duration_of};
+ghost use Rattle.stp_instance.specs.Expanded.{expanded};
 ghost use Rattle.stp_instance.specs.Typing.{objects_in};
 ghost use Rattle.stp_instance.specs.Views.{claim};
-ghost use Rattle.stp_ground.specs.Chosen.{chosen_by, chosen_under as chosen_under_lem};
+ghost use Rattle.stp_ground.specs.Chosen.{chosen_by, chosen_under};
 ghost use Rattle.stp_ground.specs.Views.{chosen_view};
 ghost use Rattle.stp_ground.specs.Worlds.{problem_in};
 
@@ -19,9 +20,9 @@ use crate::world::World;
 use bumpalo::Bump;
 use std::alloc::Global;
 use stp_base::{List, Memory, ObjectId, Text};
-use stp_instance::{Ground, Members, expand, written_under};
+use stp_instance::{Ground, Members, Values, duration, expand, written_under};
 use stp_schema::{Lifted, Schema, Timing};
-use stp_value::{Duration, Values, duration};
+use stp_task::Duration;
 
 /// A condition under a binding.
 pub(crate) fn expanded<'a>(
@@ -32,7 +33,7 @@ pub(crate) fn expanded<'a>(
     cond: &Lifted<'_>,
 ) -> Result<Ground<'a>, Memory>
     ensures ground { IfOk result
-        (λ r. claim r ≡ expanded_lem (objects_in members.old) (numbers_of objects.now) (formula cond.now)) }
+        (λ r. claim r ≡ expanded (objects_in members.old) (numbers_of objects.now) (formula cond.now)) }
     ensures members { members.new ≡ members.old }
 {
     let mut binding = Vec::from_slice(alloc, objects)?;
@@ -70,7 +71,7 @@ fn chosen_under<'a>(
 ) -> Result<Chosen<'a>, Memory>
     requires { is_lawful (plain_duration lasting) ≡ true }
     ensures chosen { IfOk result
-        (λ r. chosen_view r ≡ chosen_under_lem (objects_in members.old) number (schema_of schema.now) (numbers_of objects.now) (plain_duration lasting)) }
+        (λ r. chosen_view r ≡ chosen_under (objects_in members.old) number (schema_of schema.now) (numbers_of objects.now) (plain_duration lasting)) }
     ensures members { members.new ≡ members.old }
 {
     let args = arena.try_alloc_slice_copy(objects)?;

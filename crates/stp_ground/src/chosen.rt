@@ -1,11 +1,11 @@
 //! What a name and arguments choose.
 
 ghost use Rattle.std.specs.Prelude.{◌≡◌, true};
-ghost use Rattle.stp_value.specs.Durations.{is_lawful, plain_duration};
+ghost use Rattle.stp_task.specs.Durations.{is_lawful, plain_duration};
 
 use stp_base::ObjectId;
 use stp_instance::{Ground, Written};
-use stp_value::Duration;
+use stp_task::Duration;
 
 /// A schema with objects for its parameters: its conditions expanded, and the atoms of its effects.
 #[derive(Clone, Copy)]

@@ -4,12 +4,11 @@ ghost use Rattle.std.specs.Prelude.{◌≡◌, true, length, option_map, if◌th
 ghost use Rattle.stp_cond.specs.Events.{IsEventInRange};
 ghost use Rattle.stp_cond.specs.Formulas.{view, Always};
 ghost use Rattle.stp_cond.specs.Truth.{is_below};
-ghost use Rattle.stp_value.specs.Durations.{plain_duration};
 ghost use Rattle.stp_task.specs.Actions.{action_of, happening_of};
-ghost use Rattle.stp_task.specs.Lawful.{lasts as lasts_lem};
+ghost use Rattle.stp_task.specs.Durations.{plain_duration, lasts};
 ghost use Rattle.stp_instance.specs.Views.{claim};
 ghost use Rattle.stp_instance.specs.Effects.{written_atoms};
-ghost use Rattle.stp_ground.specs.Ground.{action_by, happening as happening_lem, left_of as left_of_lem};
+ghost use Rattle.stp_ground.specs.Ground.{action_by, happening, left_of};
 ghost use Rattle.stp_ground.specs.InRange.{IsActionInRange};
 ghost use Rattle.stp_ground.specs.Views.{chosen_view};
 ghost use Rattle.stp_ground.specs.Worlds.{problem_in};
@@ -18,12 +17,11 @@ use crate::chosen::Chosen;
 use crate::world::World;
 use bumpalo::Bump;
 use std::alloc::Global;
-use stp_atoms::AtomTable;
 use stp_base::Memory;
 use stp_cond::{Cond, Event};
 use stp_instance::{Ground, Written, fold_ground, reads_of, written_numbers};
-use stp_task::GroundAction;
-use stp_value::Duration;
+use stp_tables::AtomTable;
+use stp_task::{Duration, GroundAction};
 
 /// What is left of a condition once what is static is known.
 pub(crate) fn left_of<'a>(
@@ -34,7 +32,7 @@ pub(crate) fn left_of<'a>(
     ground: &Ground<'_>,
 ) -> Result<Cond<'a>, Memory>
     ensures left { IfOk result
-        (λ r. view r ≡ left_of_lem (problem_in world.now) table.now (claim ground.now)) }
+        (λ r. view r ≡ left_of (problem_in world.now) table.now (claim ground.now)) }
     ensures in_range { IfOk result (λ r. is_below (length table.now) r ≡ true) }
 {
     let cond = fold_ground(alloc, arena, table, &world.fluent, &world.facts, ground)?;
@@ -52,7 +50,7 @@ fn happening<'a>(
     dels: &[Written<'_>],
 ) -> Result<Event<'a>, Memory>
     ensures event { IfOk result
-        (λ e. happening_of e ≡ happening_lem (problem_in world.now) table.now (claim ground.now) (written_atoms adds.now) (written_atoms dels.now)) }
+        (λ e. happening_of e ≡ happening (problem_in world.now) table.now (claim ground.now) (written_atoms adds.now) (written_atoms dels.now)) }
     ensures in_range { IfOk result (λ e. IsEventInRange (length table.now) e) }
 {
     let reads = reads_of(alloc, arena, table, &world.fluent, ground)?;
@@ -69,7 +67,7 @@ fn happening<'a>(
 
 /// Whether a duration takes time.
 fn lasts(duration: Duration) -> bool
-    ensures { result ≡ lasts_lem (plain_duration duration) }
+    ensures { result ≡ lasts (plain_duration duration) }
 {
     match duration {
         Duration::Instant => false,
@@ -87,7 +85,7 @@ fn finish_of<'a>(
 ) -> Result<Option<Event<'a>>, Memory>
     ensures event { IfOk result
         (λ r. option_map happening_of r
-        ≡ (if lasts_lem (plain_duration chosen.now.duration) then Some (happening_lem (problem_in world.now) table.now (claim chosen.now.end_cond) (written_atoms chosen.now.end_adds.now) (written_atoms chosen.now.end_dels.now)) else None)) }
+        ≡ (if lasts (plain_duration chosen.now.duration) then Some (happening (problem_in world.now) table.now (claim chosen.now.end_cond) (written_atoms chosen.now.end_adds.now) (written_atoms chosen.now.end_dels.now)) else None)) }
     ensures in_range { IfOk result (λ r. IfSome r (IsEventInRange (length table.now))) }
 {
     if !lasts(chosen.duration) {
@@ -115,7 +113,7 @@ fn over_of<'a>(
 ) -> Result<Cond<'a>, Memory>
     ensures left { IfOk result
         (λ r. view r
-        ≡ (if lasts_lem (plain_duration chosen.now.duration) then left_of_lem (problem_in world.now) table.now (claim chosen.now.over_all) else Always)) }
+        ≡ (if lasts (plain_duration chosen.now.duration) then left_of (problem_in world.now) table.now (claim chosen.now.over_all) else Always)) }
     ensures in_range { IfOk result (λ r. is_below (length table.now) r ≡ true) }
 {
     if !lasts(chosen.duration) {

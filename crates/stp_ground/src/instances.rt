@@ -14,9 +14,9 @@ use crate::numbering::number_chosen;
 use crate::world::World;
 use bumpalo::Bump;
 use std::alloc::Global;
-use stp_atoms::AtomTable;
 use stp_base::{List, Text};
 use stp_schema::Problem;
+use stp_tables::AtomTable;
 use stp_task::GroundAction;
 
 /// The ground action that a name and the names of arguments choose, over the table with its fluent atoms; or the first

@@ -8,9 +8,9 @@ ghost use Rattle.stp_ground.specs.Worlds.{problem_in};
 
 use crate::chosen::Chosen;
 use crate::world::World;
-use stp_atoms::AtomTable;
 use stp_base::Memory;
 use stp_instance::{number_atoms, number_written};
+use stp_tables::AtomTable;
 
 /// Numbers the fluent atoms of what is chosen, where it is known which predicates are fluent.
 fn number_in_order(

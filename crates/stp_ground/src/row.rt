@@ -7,8 +7,8 @@ ghost use Rattle.stp_ground.specs.Worlds.{problem_in};
 
 use crate::world::World;
 use std::alloc::Global;
-use stp_atoms::AtomTable;
 use stp_base::{AtomId, Memory, StateRow};
+use stp_tables::AtomTable;
 
 /// The row of a table's atoms in which those are true that are among the facts.
 fn row_of(alloc: Global, facts: &AtomTable, table: &AtomTable) -> Result<StateRow, Memory>

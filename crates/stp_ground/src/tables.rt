@@ -10,11 +10,10 @@ ghost use Rattle.stp_ground.specs.Worlds.{problem_in};
 use crate::marks::fluents;
 use crate::world::World;
 use std::alloc::Global;
-use stp_atoms::AtomTable;
 use stp_base::Memory;
-use stp_instance::Members;
+use stp_instance::{Members, Values};
 use stp_schema::{Fact, Problem};
-use stp_value::Values;
+use stp_tables::AtomTable;
 
 /// The atoms that are true at first, in order, each once.
 fn numbered_facts(alloc: Global, given: &[Fact<'_>]) -> Result<AtomTable, Memory>

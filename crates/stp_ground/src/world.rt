@@ -6,10 +6,9 @@ ghost use Rattle.stp_instance.specs.Numbered.{is_fluent, is_in};
 ghost use Rattle.stp_ground.specs.Problems.{is_fact, is_written};
 ghost use Rattle.stp_ground.specs.Typing.{typing_of};
 
-use stp_atoms::AtomTable;
-use stp_instance::Members;
+use stp_instance::{Members, Values};
 use stp_schema::Problem;
-use stp_value::Values;
+use stp_tables::AtomTable;
 
 /// A problem with its tables: which predicates are fluent, which atoms are true at first, the values of functions, and
 /// the objects of each type.

@@ -1,5 +1,5 @@
--- Lists whose items come in order: entries by time and then by step, spans by step.
-use Rattle.std.proofs.Common.{◌≡◌, ℕ, zero, suc, ◌+◌, ◌<◌, ◌≤◌, ◌==◌, nat_lt, Bool, true, false, ◌&&◌, ◌||◌, List, [], ◌∷◌, ◌++◌, map, length, get_or, Contains, Option, Some, None, IfSome, IsPermutation, IsSortedByKey, inl, inr, refl, ap, ap₂, sym, ◌∙◌, subst, arith}
+-- Lists whose items come in order, and entries that are sorted by time and then by step.
+use Rattle.std.proofs.Common.{◌≡◌, ℕ, zero, suc, ◌<◌, ◌==◌, nat_lt, Bool, true, false, not, ◌&&◌, ◌||◌, List, [], ◌∷◌, ◌++◌, map, length, get_or, Contains, IsPermutation, IsSortedByKey, inl, inr, refl, ap₂, sym, ◌∙◌, subst, arith}
 use Rattle.std.specs.List.{list_all, IsDistinct}
 use Rattle.std.specs.Ordering.{is_lt}
 use Rattle.std.specs.Cmp.{IsStrictWeakOrder}
@@ -8,15 +8,10 @@ use Rattle.std.proofs.lemmas.List.Folds.{list_all-map}
 use Rattle.std.proofs.lemmas.List.Elements.{Contains-get_or, Contains-append_cases}
 use Rattle.std.proofs.lemmas.List.Sorted.{sorted_far}
 use Rattle.std.proofs.lemmas.Map.Keys.{IsDistinct-from_apart, IsDistinct-IsPermutation, apart_from_distinct}
-use Rattle.stp_cond.specs.Atoms.{PlainEvent}
 use Rattle.stp_happen.specs.declared.run.Entry.{Entry}
-use Rattle.stp_happen.specs.declared.run.Span.{Span}
-use Rattle.stp_happen.specs.Plain.{PlainEntry, PlainSpan}
-use Rattle.stp_happen.specs.Views.{entry_of, entries_of, span_of, spans_of}
-use Rattle.stp_happen.specs.Sound.{is_ascending, entry_before, span_before}
-use Rattle.stp_happen.specs.Boxes.{PlainStep, end_of, rest_of, last_entries, entries_of_step, span_of_step, entries_from, spans_from}
+use Rattle.stp_happen.specs.Sound.{is_ascending, entry_before}
 use Rattle.stp_happen.specs.Times.{time_and_step, by_time_and_step}
-use Rattle.stp_happen.proofs.Members.{member_cases, member_nil, each_passes, all_pass, and_left, and_right, and_both}
+use Rattle.stp_happen.proofs.Members.{here, there, each_passes, all_pass, and_left, and_right, and_both}
 
 -- ---- in order, and pairs of items
 
@@ -40,8 +35,16 @@ ascending_from_pairs before (x ∷ xs) h =
 
 -- ---- joined lists
 
-pub all_append : {X : Type 0} (p : X → Bool) (xs ys : List X) → list_all p xs ≡ true → list_all p ys ≡ true → list_all p (xs ++ ys) ≡ true
-all_append p xs ys h k = all_pass p (xs ++ ys) (λ x i. elim (Contains-append_cases xs ys x i) [ inl j ↦ each_passes p xs h x j | inr j ↦ each_passes p ys k x j ])
+pub joined_ascend : {X : Type 0} (before : X → X → Bool) (xs ys : List X) → is_ascending before xs ≡ true → is_ascending before ys ≡ true →
+    ((x y : X) → Contains xs x → Contains ys y → before x y ≡ true) → is_ascending before (xs ++ ys) ≡ true
+joined_ascend before [] ys h k l = k
+joined_ascend before (x ∷ xs) ys h k l =
+    and_both (list_all (before x) (xs ++ ys)) (is_ascending before (xs ++ ys))
+    (all_pass (before x) (xs ++ ys) (λ y i. elim (Contains-append_cases xs ys y i) [
+      | inl j ↦ each_passes (before x) xs (and_left (list_all (before x) xs) (is_ascending before xs) h) y j
+      | inr j ↦ l x y (here x xs) j
+    ]))
+    (joined_ascend before xs ys (and_right (list_all (before x) xs) (is_ascending before xs) h) k (λ z y i j. l z y (there x xs z i) j))
 
 -- ---- a list by time and then by step in which no time and step come twice
 
@@ -80,97 +83,17 @@ unfolding earlier
 ascending_from_sorted es distinct sorted = ascending_from_pairs entry_before es (λ i j d l m.
     then_before (get_or es i d) (get_or es j d) (sorted_far earlier orders_entries es sorted i j d (omega arith) m) (apart_from_distinct same_moment es i j d distinct l m))
 
--- ---- the entries of a box by step and then by time
-
-abbrev step_first : PlainEntry → PlainEntry → Bool
-step_first e o = lex e.step e.time o.step o.time
-
--- a last event comes after the start of its step
-abbrev pub AreLasting : List PlainStep → List ℕ → Type 0
-AreLasting [] ds = Unit {0}
-AreLasting (s ∷ ss) ds = IfSome s.last (λ e. s.start < end_of s ds) × AreLasting ss (rest_of s ds)
-
-last_of_step : (number end : ℕ) (last : Option PlainEvent) (e : PlainEntry) → Contains (last_entries number end last) e → e.step ≡ number
-last_of_step number end None e i = absurd (member_nil e i)
-last_of_step number end (Some event) e i = elim (member_cases (record { time = end; step = number; event = event }) [] e i) [ inl h ↦ ap (λ o. o.step) (sym h) | inr j ↦ absurd (member_nil e j) ]
-
-of_step : (number : ℕ) (s : PlainStep) (end : ℕ) (e : PlainEntry) → Contains (entries_of_step number s end) e → e.step ≡ number
-of_step number s end e i =
-    elim (member_cases (record { time = s.start; step = number; event = s.first }) (last_entries number end s.last) e i) [ inl h ↦ ap (λ o. o.step) (sym h) | inr j ↦ last_of_step number end s.last e j ]
-
-from_number : (number : ℕ) (steps : List PlainStep) (ds : List ℕ) (e : PlainEntry) → Contains (entries_from number steps ds) e → number ≤ e.step
-from_number number [] ds e i = absurd (member_nil e i)
-from_number number (s ∷ ss) ds e i =
-    elim (Contains-append_cases (entries_of_step number s (end_of s ds)) (entries_from (number + 1) ss (rest_of s ds)) e i) [
-      | inl j ↦ omega (arith, of_step number s (end_of s ds) e j)
-      | inr j ↦ omega (arith, from_number (number + 1) ss (rest_of s ds) e j)
-    ]
-
-lower_step : (e o : PlainEntry) → e.step < o.step → step_first e o ≡ true
-lower_step e o h = grind (arith, nat_tests)
-
-same_step : (e o : PlainEntry) → e.step ≡ o.step → e.time < o.time → step_first e o ≡ true
-same_step e o h l = grind (arith, nat_tests)
-
-ascending_step : (number : ℕ) (s : PlainStep) (end : ℕ) (last : Option PlainEvent) (rest : List PlainEntry) → IfSome last (λ e. s.start < end) →
-    ((o : PlainEntry) → Contains rest o → number < o.step) → is_ascending step_first rest ≡ true →
-    is_ascending step_first (record { time = s.start; step = number; event = s.first } ∷ (last_entries number end last ++ rest)) ≡ true
-ascending_step number s end None rest h above up =
-    let first : PlainEntry = record { time = s.start; step = number; event = s.first } in
-    and_both (list_all (step_first first) rest) (is_ascending step_first rest) (all_pass (step_first first) rest (λ o i. lower_step first o (above o i))) up
-ascending_step number s end (Some event) rest h above up =
-    let first : PlainEntry = record { time = s.start; step = number; event = s.first } in
-    let last : PlainEntry = record { time = end; step = number; event = event } in
-    and_both (list_all (step_first first) (last ∷ rest)) (is_ascending step_first (last ∷ rest))
-    (and_both (step_first first last) (list_all (step_first first) rest) (same_step first last refl h) (all_pass (step_first first) rest (λ o i. lower_step first o (above o i))))
-    (and_both (list_all (step_first last) rest) (is_ascending step_first rest) (all_pass (step_first last) rest (λ o i. lower_step last o (above o i))) up)
-
-entries_ascend : (number : ℕ) (steps : List PlainStep) (ds : List ℕ) → AreLasting steps ds → is_ascending step_first (entries_from number steps ds) ≡ true
-entries_ascend number [] ds h = refl
-entries_ascend number (s ∷ ss) ds h =
-    let rest = entries_from (number + 1) ss (rest_of s ds) in
-    ascending_step number s (end_of s ds) s.last rest h.0 (λ o i. omega (arith, from_number (number + 1) ss (rest_of s ds) o i)) (entries_ascend (number + 1) ss (rest_of s ds) h.1)
-
--- no time and step come twice
-apart_by_step : (e o : Entry) → step_first (entry_of e) (entry_of o) ≡ true → same_moment e o ≡ false
-unfolding same_moment
-apart_by_step e o h = grind (arith, nat_tests)
-
-same_turned : (e o : Entry) → same_moment e o ≡ same_moment o e
+pub same_turned : (e o : Entry) → same_moment e o ≡ same_moment o e
 unfolding same_moment
 same_turned e o = grind (arith, nat_tests)
 
-distinct_entries : (es : List Entry) (steps : List PlainStep) (ds : List ℕ) → entries_of es ≡ entries_from 1 steps ds → AreLasting steps ds → IsDistinct same_moment es
-distinct_entries es steps ds e h =
-    let up : is_ascending (λ x y. step_first (entry_of x) (entry_of y)) es ≡ true = sym (ascending_map step_first entry_of es) ∙ (ap (is_ascending step_first) e ∙ entries_ascend 1 steps ds h) in
-    IsDistinct-from_apart same_moment es (λ i j d l m. apart_by_step (get_or es i d) (get_or es j d) (ascending_pair (λ x y. step_first (entry_of x) (entry_of y)) es d up i j l m))
+told_apart : (e o : Entry) → not ((e.time == o.time) && (e.step.0 == o.step.0)) ≡ true → same_moment e o ≡ false
+unfolding same_moment
+told_apart e o h = grind (arith, nat_tests)
 
-pub sorted_entries_ascend : (es os : List Entry) (steps : List PlainStep) (ds : List ℕ) → entries_of es ≡ entries_from 1 steps ds → AreLasting steps ds → IsPermutation es os →
-    IsSortedByKey time_and_step by_time_and_step os → is_ascending entry_before os ≡ true
-sorted_entries_ascend es os steps ds e h moves sorted =
-    ascending_from_sorted os (IsDistinct-IsPermutation same_moment same_turned es os moves (distinct_entries es steps ds e h)) sorted
+-- no time and step come twice where each two in order differ in one of them
+pub distinct_from_apart : (es : List Entry) → is_ascending (λ e o. not ((e.time == o.time) && (e.step.0 == o.step.0))) es ≡ true → IsDistinct same_moment es
+distinct_from_apart es up = IsDistinct-from_apart same_moment es (λ i j d l m. told_apart (get_or es i d) (get_or es j d) (ascending_pair (λ e o. not ((e.time == o.time) && (e.step.0 == o.step.0))) es d up i j l m))
 
--- ---- the spans of a box by step
-
-abbrev lower_span : PlainSpan → PlainSpan → Bool
-lower_span s o = nat_lt s.step o.step
-
-spans_from_number : (number : ℕ) (steps : List PlainStep) (ds : List ℕ) (s : PlainSpan) → Contains (spans_from number steps ds) s → number ≤ s.step
-spans_from_number number [] ds s i = absurd (member_nil s i)
-spans_from_number number (t ∷ ts) ds s i =
-    elim (member_cases (span_of_step number t (end_of t ds)) (spans_from (number + 1) ts (rest_of t ds)) s i) [
-      | inl h ↦ omega (arith, ap (λ o. o.step) h)
-      | inr j ↦ omega (arith, spans_from_number (number + 1) ts (rest_of t ds) s j)
-    ]
-
-plain_spans_ascend : (number : ℕ) (steps : List PlainStep) (ds : List ℕ) → is_ascending lower_span (spans_from number steps ds) ≡ true
-plain_spans_ascend number [] ds = refl
-plain_spans_ascend number (t ∷ ts) ds =
-    let rest = spans_from (number + 1) ts (rest_of t ds) in
-    let first = span_of_step number t (end_of t ds) in
-    and_both (list_all (lower_span first) rest) (is_ascending lower_span rest)
-    (all_pass (lower_span first) rest (λ o i. let l = spans_from_number (number + 1) ts (rest_of t ds) o i in grind (arith, nat_tests)))
-    (plain_spans_ascend (number + 1) ts (rest_of t ds))
-
-pub spans_ascend : (ss : List Span) (steps : List PlainStep) (ds : List ℕ) → spans_of ss ≡ spans_from 1 steps ds → is_ascending span_before ss ≡ true
-spans_ascend ss steps ds e = sym (ascending_map lower_span span_of ss) ∙ (ap (is_ascending lower_span) e ∙ plain_spans_ascend 1 steps ds)
+pub sorted_ascend : (es os : List Entry) → is_ascending (λ e o. not ((e.time == o.time) && (e.step.0 == o.step.0))) es ≡ true → IsPermutation es os → IsSortedByKey time_and_step by_time_and_step os → is_ascending entry_before os ≡ true
+sorted_ascend es os up moves sorted = ascending_from_sorted os (IsDistinct-IsPermutation same_moment same_turned es os moves (distinct_from_apart es up)) sorted

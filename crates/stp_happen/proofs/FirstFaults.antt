@@ -11,7 +11,7 @@ use Rattle.stp_happen.specs.Views.{entries_of, run_of, spans_of}
 use Rattle.stp_happen.specs.declared.run.Entry.{Entry}
 use Rattle.stp_happen.specs.declared.run.Run.{Run}
 use Rattle.stp_happen.specs.declared.run.Span.{Span}
-use Rattle.stp_cond.specs.Truth.{meaning_of}
+use Rattle.stp_cond.specs.Truth.{meaning_of, state_of_row}
 use Rattle.stp_cond.specs.declared.cond.Cond.TheVariants.{True}
 use Rattle.std.proofs.Math.Path.{fun_ext}
 use Rattle.stp_happen.proofs.FaultOrder.{IsFirstOf, first_is, only, sooner_is}
@@ -51,7 +51,7 @@ pub found : (run : Run) (entries : List Entry) (some spans : List Span) (row : L
     entries ≡ run.entries → some ≡ run.spans → spans ≡ run.spans → row ≡ run.initial →
     overlap ≡ first_of (overlaps (spans_of some)) → interference ≡ first_of (interferences (entries_of entries)) →
     condition ≡ first_of (conditions (run_of entries spans row True)) → over_all ≡ first_of (over_alls (run_of entries spans row True)) →
-    ((a : ℕ) → last a ≡ state_after row (entries_of entries) a) → goal ≡ goal_in last (meaning_of run.goal.now) →
+    ((a : ℕ) → last a ≡ state_after (state_of_row row) (entries_of entries) a) → goal ≡ goal_in last (meaning_of run.goal.now) →
     of_pairs ≡ sooner_of overlap interference → third ≡ sooner_of of_pairs condition → of_entries ≡ sooner_of third over_all → result ≡ sooner_of of_entries goal →
     IsFirstOf result (faults_of (plain_run run))
 found run entries some spans row last overlap interference condition over_all goal of_pairs third of_entries result e s s' r o i c a l g one two three four =
@@ -60,7 +60,7 @@ found run entries some spans row last overlap interference condition over_all go
     let i' : interference ≡ first_of (interferences plain.entries) = i ∙ ap (λ x. first_of (interferences (entries_of x))) e in
     let c' : condition ≡ first_of (conditions plain) = c ∙ (ap (λ x. first_of (conditions (run_of x spans row True))) e ∙ ap (λ x. first_of (conditions (run_of run.entries spans x True))) r) in
     let a' : over_all ≡ first_of (over_alls plain) = a ∙ (ap (λ x. first_of (over_alls (run_of x spans row True))) e ∙ (ap (λ x. first_of (over_alls (run_of run.entries x row True))) s' ∙ ap (λ x. first_of (over_alls (run_of run.entries run.spans x True))) r)) in
-    let end : last ≡ at_end plain = fun_ext l ∙ (ap (λ x. state_after x (entries_of entries)) r ∙ ap (λ x. state_after run.initial (entries_of x)) e) in
+    let end : last ≡ at_end plain = fun_ext l ∙ (ap (λ x. state_after (state_of_row x) (entries_of entries)) r ∙ ap (λ x. state_after (state_of_row run.initial) (entries_of x)) e) in
     let g' : goal ≡ goal_in (at_end plain) plain.goal = g ∙ ap (λ x. goal_in x plain.goal) end in
     let first : of_pairs ≡ sooner_of (first_of (overlaps plain.spans)) (first_of (interferences plain.entries)) = one ∙ (ap (λ x. sooner_of x interference) o' ∙ ap (sooner_of (first_of (overlaps plain.spans))) i') in
     let second : third ≡ sooner_of (sooner_of (first_of (overlaps plain.spans)) (first_of (interferences plain.entries))) (first_of (conditions plain)) = two ∙ (ap (λ x. sooner_of x condition) first ∙ ap (sooner_of (sooner_of (first_of (overlaps plain.spans)) (first_of (interferences plain.entries)))) c') in

@@ -6,7 +6,6 @@ use Rattle.std.proofs.lemmas.List.{append-nil}
 use Rattle.std.proofs.lemmas.List.Elements.{All-cons, All-nil, All-head, All-tail, filter-append}
 use Rattle.std.proofs.lemmas.List.Folds.{list_any-append, list_all-append}
 use Rattle.stp_cond.specs.Atoms.{has}
-use Rattle.stp_cond.specs.Truth.{state_of_row}
 use Rattle.stp_happen.specs.Firsts.{changed}
 use Rattle.stp_happen.specs.Plain.{PlainEntry, writes, is_latest_write, state_after}
 
@@ -106,7 +105,7 @@ none_added true dels old h = absurd (both_ways true h refl)
 none_added false true old h = absurd (both_ways true h refl)
 none_added false false old h = refl
 
-written : (initial : List Bool) (D M : List PlainEntry) (t : ℕ) → All (λ e. e.time < t) D → All (λ e. e.time ≡ t) M → (a : ℕ) → list_any (λ e. writes e a) M ≡ true → changed M (state_after initial D) a ≡ state_after initial (D ++ M) a
+written : (initial : ℕ → Bool) (D M : List PlainEntry) (t : ℕ) → All (λ e. e.time < t) D → All (λ e. e.time ≡ t) M → (a : ℕ) → list_any (λ e. writes e a) M ≡ true → changed M (state_after initial D) a ≡ state_after initial (D ++ M) a
 written initial D M t d m a some =
     let adds : PlainEntry → Bool = λ e. has e.event.adds a in
     let chosen : PlainEntry → Bool = λ e. has e.event.adds a && is_latest_write (D ++ M) a e.time in
@@ -116,14 +115,14 @@ written initial D M t d m a some =
     let late : list_any chosen M ≡ list_any adds M = any_agree chosen adds M (λ k x h. ap (λ u. adds (get_or M k x) && is_latest_write (D ++ M) a u) (m k x h) ∙ (ap (λ b. adds (get_or M k x) && b) all_by ∙ and_true (adds (get_or M k x)))) in
     let wrote : list_any (λ e. writes e a) (D ++ M) ≡ true = list_any-append (λ e. writes e a) D M ∙ or_right (list_any (λ e. writes e a) D) (list_any (λ e. writes e a) M) some in
     last_added (list_any adds M) (list_any (λ e. has e.event.dels a) M) (state_after initial D a) (sym (adds_and_writes M a) ∙ some)
-    ∙ sym (cond-true (list_any (λ e. writes e a) (D ++ M)) (list_any chosen (D ++ M)) (state_of_row initial a) wrote
+    ∙ sym (cond-true (list_any (λ e. writes e a) (D ++ M)) (list_any chosen (D ++ M)) (initial a) wrote
     ∙ (list_any-append chosen D M ∙ (ap (λ b. b || list_any chosen M) early ∙ late)))
   where
     and_true : (b : Bool) → (b && true) ≡ b
     and_true true = refl
     and_true false = refl
 
-unwritten : (initial : List Bool) (D M : List PlainEntry) (a : ℕ) → list_any (λ e. writes e a) M ≡ false → changed M (state_after initial D) a ≡ state_after initial (D ++ M) a
+unwritten : (initial : ℕ → Bool) (D M : List PlainEntry) (a : ℕ) → list_any (λ e. writes e a) M ≡ false → changed M (state_after initial D) a ≡ state_after initial (D ++ M) a
 unwritten initial D M a none =
     let adds : PlainEntry → Bool = λ e. has e.event.adds a in
     let chosen : PlainEntry → Bool = λ e. has e.event.adds a && is_latest_write (D ++ M) a e.time in
@@ -135,7 +134,7 @@ unwritten initial D M a none =
     let wrote : list_any (λ e. writes e a) (D ++ M) ≡ list_any (λ e. writes e a) D = list_any-append (λ e. writes e a) D M ∙ (ap (λ b. list_any (λ e. writes e a) D || b) none ∙ or_false (list_any (λ e. writes e a) D)) in
     let picked : list_any chosen (D ++ M) ≡ list_any before D = list_any-append chosen D M ∙ (ap (λ b. b || list_any chosen M) same ∙ (ap (λ b. list_any before D || b) no_add ∙ or_false (list_any before D))) in
     none_added (list_any adds M) (list_any (λ e. has e.event.dels a) M) (state_after initial D a) (sym (adds_and_writes M a) ∙ none)
-    ∙ sym (ap (λ b. cond b (list_any chosen (D ++ M)) (state_of_row initial a)) wrote ∙ ap (λ b. cond (list_any (λ e. writes e a) D) b (state_of_row initial a)) picked)
+    ∙ sym (ap (λ b. cond b (list_any chosen (D ++ M)) (initial a)) wrote ∙ ap (λ b. cond (list_any (λ e. writes e a) D) b (initial a)) picked)
   where
     and_true : (b : Bool) → (b && true) ≡ b
     and_true true = refl
@@ -145,7 +144,7 @@ unwritten initial D M a none =
     or_false true = refl
     or_false false = refl
 
-pub moment_state : (initial : List Bool) (D M : List PlainEntry) (t : ℕ) → All (λ e. e.time < t) D → All (λ e. e.time ≡ t) M → (a : ℕ) → changed M (state_after initial D) a ≡ state_after initial (D ++ M) a
+pub moment_state : (initial : ℕ → Bool) (D M : List PlainEntry) (t : ℕ) → All (λ e. e.time < t) D → All (λ e. e.time ≡ t) M → (a : ℕ) → changed M (state_after initial D) a ≡ state_after initial (D ++ M) a
 moment_state initial D M t d m a =
     ⊎_elim
     (λ some. written initial D M t d m a some)

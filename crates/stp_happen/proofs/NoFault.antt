@@ -1,11 +1,14 @@
 -- A run has no fault exactly where it executes.
-use Rattle.std.proofs.Common.{◌≡◌, ℕ, Bool, true, List, [], ◌∷◌, ◌++◌, Option, Some, None, All, refl, ap, ◌∙◌, arith}
+use Rattle.std.proofs.Common.{◌≡◌, ℕ, Bool, true, List, [], ◌∷◌, ◌++◌, Option, Some, None, All, Contains, refl, ap, ◌∙◌, arith}
 use Rattle.std.specs.List.{cons_option, filter_map, flat_map}
 use Rattle.std.proofs.lemmas.Bool.Decides.{nat_tests}
 use Rattle.std.proofs.lemmas.List.Elements.{All-cons, All-nil, All-head, All-tail, All-weaker}
+use Rattle.stp_cond.specs.Atoms.{interfere}
 use Rattle.stp_happen.specs.Faults.{overlap_of, interference_of, condition_in, over_all_in, goal_in, overlaps, interferences, conditions, over_alls, goals, faults_of}
 use Rattle.stp_happen.specs.Plain.{PlainEntry, PlainSpan, PlainRun, AreCalm, IsFed, IsKept, AreApart, Executes, before, after, at_end}
+use Rattle.stp_happen.proofs.Members.{all_pairs, each_of}
 use Rattle.stp_happen.proofs.MomentSteps.{filter_map_none}
+use Rattle.stp_happen.proofs.Interfering.{interfere_turned}
 
 -- ---- empty lists
 
@@ -29,16 +32,22 @@ flat_map_none : {X Y : Type 0} (f : X → List Y) (xs : List X) → All (λ x. f
 flat_map_none f [] all = refl
 flat_map_none f (x ∷ xs) all = ap (λ r. r ++ flat_map f xs) (All-head (λ y. f y ≡ []) x xs all) ∙ flat_map_none f xs (All-tail (λ y. f y ≡ []) x xs all)
 
+-- where no two have an answer, each two have none
+none_of_pairs : {X Y : Type 0} (f : X → X → Option Y) (xs : List X) → flat_map (λ x. filter_map (f x) xs) xs ≡ [] → (x y : X) → Contains xs x → Contains xs y → f x y ≡ None
+none_of_pairs f xs e x y i j = each_of (λ z. f x z ≡ None) xs (filter_map_nil (f x) xs (each_of (λ z. filter_map (f z) xs ≡ []) xs (flat_map_nil (λ z. filter_map (f z) xs) xs e) x i)) y j
+
 -- ---- one pair, or one entry
 
-no_overlap : (s o : PlainSpan) → overlap_of s o ≡ None → AreApart s o
-no_overlap s o h = λ less key. grind (arith, nat_tests)
+-- two spans of different steps have an overlap in one order of the two
+no_overlap : (s o : PlainSpan) → overlap_of s o ≡ None → overlap_of o s ≡ None → AreApart s o
+no_overlap s o h k = λ other key. grind (arith, nat_tests)
 
 overlap_none : (s o : PlainSpan) → AreApart s o → overlap_of s o ≡ None
 overlap_none s o h = grind (arith, nat_tests)
 
-no_interference : (e o : PlainEntry) → interference_of e o ≡ None → AreCalm e o
-no_interference e o h = λ less at. grind (arith, nat_tests)
+-- so have two entries, since interference goes both ways
+no_interference : (e o : PlainEntry) → interference_of e o ≡ None → interference_of o e ≡ None → AreCalm e o
+no_interference e o h k = λ other at. let turned : interfere o.event e.event ≡ interfere e.event o.event = interfere_turned o.event e.event in grind (arith, nat_tests)
 
 interference_none : (e o : PlainEntry) → AreCalm e o → interference_of e o ≡ None
 interference_none e o h = grind (arith, nat_tests)
@@ -70,16 +79,12 @@ executes run e =
     let third = append_nil (overlaps run.spans ++ interferences run.entries) (conditions run) second.0 in
     let fourth = append_nil (overlaps run.spans) (interferences run.entries) third.0 in
     record {
-      calm = All-weaker (λ e. filter_map (interference_of e) run.entries ≡ []) (λ e. All (AreCalm e) run.entries)
-          (λ e h. All-weaker (λ o. interference_of e o ≡ None) (AreCalm e) (no_interference e) run.entries (filter_map_nil (interference_of e) run.entries h))
-          run.entries (flat_map_nil (λ e. filter_map (interference_of e) run.entries) run.entries fourth.1);
+      calm = all_pairs AreCalm run.entries run.entries (λ e o i j. no_interference e o (none_of_pairs interference_of run.entries fourth.1 e o i j) (none_of_pairs interference_of run.entries fourth.1 o e j i));
       fed = All-weaker (λ e. condition_in (before run e.time) e ≡ None) (IsFed run) (no_condition run) run.entries (filter_map_nil (λ e. condition_in (before run e.time) e) run.entries third.1);
       kept = All-weaker (λ e. filter_map (over_all_in (after run e.time) e.time) run.spans ≡ []) (λ e. All (IsKept run e) run.spans)
           (λ e h. All-weaker (λ s. over_all_in (after run e.time) e.time s ≡ None) (IsKept run e) (no_over_all run e) run.spans (filter_map_nil (over_all_in (after run e.time) e.time) run.spans h))
           run.entries (flat_map_nil (λ e. filter_map (over_all_in (after run e.time) e.time) run.spans) run.entries second.1);
-      apart = All-weaker (λ s. filter_map (overlap_of s) run.spans ≡ []) (λ s. All (AreApart s) run.spans)
-          (λ s h. All-weaker (λ o. overlap_of s o ≡ None) (AreApart s) (no_overlap s) run.spans (filter_map_nil (overlap_of s) run.spans h))
-          run.spans (flat_map_nil (λ s. filter_map (overlap_of s) run.spans) run.spans fourth.0);
+      apart = all_pairs AreApart run.spans run.spans (λ s o i j. no_overlap s o (none_of_pairs overlap_of run.spans fourth.0 s o i j) (none_of_pairs overlap_of run.spans fourth.0 o s j i));
       reached = no_goal (at_end run) run.goal (cons_nil (goal_in (at_end run) run.goal) [] first.1).0;
     }
 

@@ -25,7 +25,7 @@ pub kept_of_same : {X : Type 0} (p : X → Bool) (xs ys : List X) → HaveSameMe
 kept_of_same p xs ys same x =
     (λ i. let r = member_of_kept p xs x i in kept_member p ys x ((same x).0 r.0) r.1, λ i. let r = member_of_kept p ys x i in kept_member p xs x ((same x).1 r.0) r.1)
 
-pub state_of_same : (initial : List Bool) (es os : List PlainEntry) → HaveSameMembers es os → state_after initial es ≡ state_after initial os
+pub state_of_same : (initial : ℕ → Bool) (es os : List PlainEntry) → HaveSameMembers es os → state_after initial es ≡ state_after initial os
 state_of_same initial es os same = fun_ext (λ a.
     let latest : (e : PlainEntry) → (has e.event.adds a && is_latest_write es a e.time) ≡ (has e.event.adds a && is_latest_write os a e.time) =
     λ e. ap (λ b. has e.event.adds a && b) (all_of_same (λ o. not (writes o a) || nat_le o.time e.time) es os same) in
@@ -50,7 +50,7 @@ moved_latest f ts keeps es timed a t i =
     all_alike (moved_entry f) (λ o. not (writes o a) || nat_le o.time (f t)) (λ o. not (writes o a) || nat_le o.time t) es
     (λ o j. ap (λ b. not (writes o a) || b) (moved_le f ts keeps o.time t (timed o j) i))
 
-pub moved_state : (f : ℕ → ℕ) (ts : List ℕ) → KeepsOrder f ts → (initial : List Bool) (es : List PlainEntry) → AreTimed ts es → state_after initial (map (moved_entry f) es) ≡ state_after initial es
+pub moved_state : (f : ℕ → ℕ) (ts : List ℕ) → KeepsOrder f ts → (initial : ℕ → Bool) (es : List PlainEntry) → AreTimed ts es → state_after initial (map (moved_entry f) es) ≡ state_after initial es
 moved_state f ts keeps initial es timed = fun_ext (λ a.
     let written : list_any (λ e. writes e a) (map (moved_entry f) es) ≡ list_any (λ e. writes e a) es =
     any_alike (moved_entry f) (λ e. writes e a) (λ e. writes e a) es (λ e i. refl) in

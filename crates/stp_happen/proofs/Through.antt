@@ -9,7 +9,7 @@ use Rattle.stp_happen.specs.Plain.{PlainEntry, PlainRun, state_after, before, af
 use Rattle.stp_happen.proofs.MomentStates.{moment_state}
 use Rattle.stp_happen.proofs.MomentSteps.{IsMoment, interference_step, condition_step, over_all_step}
 
-pub state_next : (initial : List Bool) (T D M L : List PlainEntry) (t : ℕ) → IsMoment D M L t → T ≡ D ++ M → (old new : ℕ → Bool) → ((a : ℕ) → old a ≡ state_after initial D a) → ((a : ℕ) → new a ≡ changed M old a) → (a : ℕ) → new a ≡ state_after initial T a
+pub state_next : (initial : ℕ → Bool) (T D M L : List PlainEntry) (t : ℕ) → IsMoment D M L t → T ≡ D ++ M → (old new : ℕ → Bool) → ((a : ℕ) → old a ≡ state_after initial D a) → ((a : ℕ) → new a ≡ changed M old a) → (a : ℕ) → new a ≡ state_after initial T a
 state_next initial T D M L t is taken old new so_far changes a =
     changes a
     ∙ (ap (λ b. cond (list_any (λ e. has e.event.adds a) M) true (cond (list_any (λ e. has e.event.dels a) M) false b)) (so_far a)

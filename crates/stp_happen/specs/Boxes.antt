@@ -1,105 +1,95 @@
--- Steps whose durations are chosen later, the run under chosen durations, and when a box is strong.
+-- Boxes: owners of events whose ends are chosen later, the run under chosen durations, and when a box is strong.
 use Rattle.std.specs.Prelude.{◌≡◌, ℕ, ◌+◌, ◌*◌, ◌<◌, ◌≤◌, Bool, true, if◌then◌else◌, List, [], ◌∷◌, ◌++◌, map, drop, length, slice_index, Option, Some, None}
-use Rattle.stp_cond.specs.Truth.{meaning_of}
 use Rattle.stp_cond.specs.Atoms.{PlainEvent}
-use Rattle.stp_cond.specs.Events.{event_of}
-use Rattle.stp_cond.specs.declared.event.Event.{Event}
-use Rattle.stp_happen.specs.declared.boxes.BoxStep.{BoxStep}
-use Rattle.stp_happen.specs.declared.boxes.BoxRun.{BoxRun}
 use Rattle.stp_happen.specs.Plain.{PlainEntry, PlainSpan, PlainRun, Executes}
 
--- a step: its start, its least and greatest end, and what happens at both
-pub record PlainStep : Type 0 where
+-- which action a step is of, and what has to hold inside it
+pub record PlainInside : Type 0 where
+  pub key : ℕ
+  pub over : (ℕ → Bool) → Bool
+
+-- An owner of events: a step of a plan, or an event of the environment. Its first event comes at the start, its
+-- last at a moment from low to high, which is chosen where the owner is uncertain. An event of the environment
+-- starts at 0, and has no first event and nothing inside.
+pub record PlainOwner : Type 0 where
+  pub number : ℕ
   pub start : ℕ
   pub low : ℕ
   pub high : ℕ
   pub uncertain : Bool
-  pub key : ℕ
-  pub first : PlainEvent
+  pub first : Option PlainEvent
   pub last : Option PlainEvent
-  pub over : (ℕ → Bool) → Bool
+  pub inside : Option PlainInside
 
--- the steps of a plan, its first state and its goal
+-- the owners of all events, the first state and the goal
 pub record PlainBox : Type 0 where
-  pub steps : List PlainStep
-  pub initial : List Bool
+  pub owners : List PlainOwner
+  pub initial : ℕ → Bool
   pub goal : (ℕ → Bool) → Bool
 
--- ---- the run under chosen durations, one for each uncertain step, in order
+-- ---- the run under chosen durations, one for each uncertain owner, in order
 
--- when a step ends, the first of the durations being its own if it is uncertain
-abbrev pub end_of : PlainStep → List ℕ → ℕ
-end_of s durations = if s.uncertain then s.start + slice_index durations 0 else s.high
+-- when an owner ends, the first of the durations being its own if it is uncertain
+abbrev pub end_of : PlainOwner → List ℕ → ℕ
+end_of o durations = if o.uncertain then o.start + slice_index durations 0 else o.high
 
--- the durations of the steps after it
-abbrev pub rest_of : PlainStep → List ℕ → List ℕ
-rest_of s durations = if s.uncertain then drop 1 durations else durations
+-- the durations of the owners after it
+abbrev pub rest_of : PlainOwner → List ℕ → List ℕ
+rest_of o durations = if o.uncertain then drop 1 durations else durations
 
--- the entry of a last event, if there is one
-abbrev pub last_entries : ℕ → ℕ → Option PlainEvent → List PlainEntry
-last_entries number end None = []
-last_entries number end (Some event) = record { time = end; step = number; event = event } ∷ []
+-- the entry of an event, if there is one
+abbrev pub event_entries : ℕ → ℕ → Option PlainEvent → List PlainEntry
+event_entries number time None = []
+event_entries number time (Some event) = record { time = time; step = number; event = event } ∷ []
 
--- the entries of a step that ends then
-abbrev pub entries_of_step : ℕ → PlainStep → ℕ → List PlainEntry
-entries_of_step number s end = record { time = s.start; step = number; event = s.first } ∷ last_entries number end s.last
+-- the entries of an owner that ends then
+abbrev pub entries_of_owner : PlainOwner → ℕ → List PlainEntry
+entries_of_owner o end = event_entries o.number o.start o.first ++ event_entries o.number end o.last
 
--- the span of a step that ends then
-abbrev pub span_of_step : ℕ → PlainStep → ℕ → PlainSpan
-span_of_step number s end = record { from = s.start; to = end; step = number; key = s.key; over = s.over }
+-- the span of what has to hold inside, if there is anything
+abbrev pub inside_spans : ℕ → ℕ → ℕ → Option PlainInside → List PlainSpan
+inside_spans number from to None = []
+inside_spans number from to (Some inside) = record { from = from; to = to; step = number; key = inside.key; over = inside.over } ∷ []
 
--- the entries of steps that are numbered from here on
-abbrev pub entries_from : ℕ → List PlainStep → List ℕ → List PlainEntry
-entries_from number [] durations = []
-entries_from number (s ∷ ss) durations = entries_of_step number s (end_of s durations) ++ entries_from (number + 1) ss (rest_of s durations)
+-- the span of an owner that ends then
+abbrev pub spans_of_owner : PlainOwner → ℕ → List PlainSpan
+spans_of_owner o end = inside_spans o.number o.start end o.inside
 
--- the spans of steps that are numbered from here on
-abbrev pub spans_from : ℕ → List PlainStep → List ℕ → List PlainSpan
-spans_from number [] durations = []
-spans_from number (s ∷ ss) durations = span_of_step number s (end_of s durations) ∷ spans_from (number + 1) ss (rest_of s durations)
+abbrev pub entries_under : List PlainOwner → List ℕ → List PlainEntry
+entries_under [] durations = []
+entries_under (o ∷ os) durations = entries_of_owner o (end_of o durations) ++ entries_under os (rest_of o durations)
 
--- the run of a box under these durations, its steps numbered from 1
+abbrev pub spans_under : List PlainOwner → List ℕ → List PlainSpan
+spans_under [] durations = []
+spans_under (o ∷ os) durations = spans_of_owner o (end_of o durations) ++ spans_under os (rest_of o durations)
+
+-- the run of a box under these durations
 abbrev pub run_under : PlainBox → List ℕ → PlainRun
 run_under box durations = record {
-  entries = entries_from 1 box.steps durations;
-  spans = spans_from 1 box.steps durations;
+  entries = entries_under box.owners durations;
+  spans = spans_under box.owners durations;
   initial = box.initial;
   goal = box.goal;
 }
 
--- an uncertain step has a duration, and ends within its bounds
-abbrev pub IsWithin : PlainStep → List ℕ → Type 0
-IsWithin s durations = s.uncertain ≡ true → (0 < length durations) × (s.low ≤ s.start + slice_index durations 0) × (s.start + slice_index durations 0 ≤ s.high)
+-- an uncertain owner has a duration, and ends within its bounds
+abbrev pub IsWithin : PlainOwner → List ℕ → Type 0
+IsWithin o durations = o.uncertain ≡ true → (0 < length durations) × (o.low ≤ o.start + slice_index durations 0) × (o.start + slice_index durations 0 ≤ o.high)
 
--- one duration for each uncertain step, in order, and none besides
-abbrev pub IsVector : List PlainStep → List ℕ → Type 0
+-- one duration for each uncertain owner, in order, and none besides
+abbrev pub IsVector : List PlainOwner → List ℕ → Type 0
 IsVector [] durations = durations ≡ []
-IsVector (s ∷ ss) durations = IsWithin s durations × IsVector ss (rest_of s durations)
+IsVector (o ∷ os) durations = IsWithin o durations × IsVector os (rest_of o durations)
 
 -- ---- finer grids
 
--- the same step on a grid that is k times as fine
-abbrev pub finer_step : ℕ → PlainStep → PlainStep
-finer_step k s = record s { start = k * s.start; low = k * s.low; high = k * s.high }
+-- the same owner on a grid that is k times as fine
+abbrev pub finer_owner : ℕ → PlainOwner → PlainOwner
+finer_owner k o = record o { start = k * o.start; low = k * o.low; high = k * o.high }
 
 abbrev pub finer_box : ℕ → PlainBox → PlainBox
-finer_box k box = record box { steps = map (finer_step k) box.steps }
+finer_box k box = record box { owners = map (finer_owner k) box.owners }
 
 -- on every finer grid and for every choice of the uncertain durations the run executes
 abbrev pub IsStrong : PlainBox → Type 0
-IsStrong box = (k : ℕ) → 0 < k → (durations : List ℕ) → IsVector (map (finer_step k) box.steps) durations → Executes (run_under (finer_box k box) durations)
-
--- ---- what a box in an arena stands for
-
-abbrev pub last_event_of : Option Event → Option PlainEvent
-last_event_of None = None
-last_event_of (Some e) = Some (event_of e)
-
-abbrev pub step_of : BoxStep → PlainStep
-step_of s = record { start = s.start; low = s.low; high = s.high; uncertain = s.uncertain; key = s.key; first = event_of s.first; last = last_event_of s.last; over = meaning_of s.over.now }
-
-abbrev pub steps_of : List BoxStep → List PlainStep
-steps_of steps = map step_of steps
-
-abbrev pub plain_box : BoxRun → PlainBox
-plain_box b = record { steps = steps_of b.steps; initial = b.initial; goal = meaning_of b.goal.now }
+IsStrong box = (k : ℕ) → 0 < k → (durations : List ℕ) → IsVector (map (finer_owner k) box.owners) durations → Executes (run_under (finer_box k box) durations)

@@ -7,7 +7,7 @@ use Rattle.stp_happen.specs.Plain.{Executes}
 
 -- durations on the box's own grid whose run does not execute
 pub record IsFailure (box : PlainBox) (durations : List ℕ) : Type 0 where
-  pub vector : IsVector box.steps durations
+  pub vector : IsVector box.owners durations
   pub fails : Executes (run_under box durations) → ⊥
 
 -- no other such durations come before these in dictionary order

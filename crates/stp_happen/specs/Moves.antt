@@ -39,6 +39,6 @@ FinerRunsAgree = (k : ℕ) (run : PlainRun) → 0 < k → Executes run ↔ Execu
 abbrev pub FinerBoxesMakeFinerRuns : Type 0
 FinerBoxesMakeFinerRuns = (k : ℕ) (box : PlainBox) (durations : List ℕ) → run_under (finer_box k box) (map (λ d. k * d) durations) ≡ finer k (run_under box durations)
 
--- a box without uncertain steps is strong exactly where its one run executes
+-- a box without uncertain owners is strong exactly where its one run executes
 abbrev pub CertainBoxesAreStrong : Type 0
-CertainBoxesAreStrong = (box : PlainBox) → All (λ s. s.uncertain ≡ false) box.steps → IsStrong box ↔ Executes (run_under box [])
+CertainBoxesAreStrong = (box : PlainBox) → All (λ o. o.uncertain ≡ false) box.owners → IsStrong box ↔ Executes (run_under box [])

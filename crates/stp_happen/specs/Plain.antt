@@ -1,7 +1,6 @@
 -- Runs of events, and when they execute.
 use Rattle.std.specs.Prelude.{◌≡◌, ℕ, ◌<◌, ◌≤◌, nat_lt, nat_le, Bool, true, false, not, ◌&&◌, ◌||◌, if◌then◌else◌, List, filter, All, ◌⊎◌}
 use Rattle.std.specs.List.{list_any, list_all}
-use Rattle.stp_cond.specs.Truth.{state_of_row}
 use Rattle.stp_cond.specs.Atoms.{PlainEvent, has, interfere}
 
 -- an event of a step at a moment
@@ -21,7 +20,7 @@ pub record PlainSpan : Type 0 where
 pub record PlainRun : Type 0 where
   pub entries : List PlainEntry
   pub spans : List PlainSpan
-  pub initial : List Bool
+  pub initial : ℕ → Bool
   pub goal : (ℕ → Bool) → Bool
 
 -- ---- states
@@ -34,12 +33,12 @@ abbrev pub is_latest_write : List PlainEntry → ℕ → ℕ → Bool
 is_latest_write entries atom time = list_all (λ e. not (writes e atom) || nat_le e.time time) entries
 
 -- What these entries leave: an atom is true where some entry adds it at the latest moment at which any
--- entry writes it; where none writes it, it is as in the initial row.
-abbrev pub state_after : List Bool → List PlainEntry → ℕ → Bool
+-- entry writes it; where none writes it, it is as in the first state.
+abbrev pub state_after : (ℕ → Bool) → List PlainEntry → ℕ → Bool
 state_after initial entries atom =
     if list_any (λ e. writes e atom) entries
     then list_any (λ e. has e.event.adds atom && is_latest_write entries atom e.time) entries
-    else state_of_row initial atom
+    else initial atom
 
 abbrev pub after : PlainRun → ℕ → ℕ → Bool
 after run time = state_after run.initial (filter (λ e. nat_le e.time time) run.entries)
@@ -52,9 +51,9 @@ at_end run = state_after run.initial run.entries
 
 -- ---- execution
 
--- no interference in one moment
+-- no interference of two steps in one moment
 abbrev pub AreCalm : PlainEntry → PlainEntry → Type 0
-AreCalm e o = e.step < o.step → e.time ≡ o.time → interfere e.event o.event ≡ false
+AreCalm e o = (e.step ≡ o.step → ⊥) → e.time ≡ o.time → interfere e.event o.event ≡ false
 
 -- an event finds what it needs in the state before its moment
 abbrev pub IsFed : PlainRun → PlainEntry → Type 0
@@ -66,7 +65,7 @@ IsKept run e s = s.from ≤ e.time → e.time < s.to → s.over (after run e.tim
 
 -- the closed spans of two steps of one action do not meet
 abbrev pub AreApart : PlainSpan → PlainSpan → Type 0
-AreApart s o = s.step < o.step → s.key ≡ o.key → (s.to < o.from) ⊎ (o.to < s.from)
+AreApart s o = (s.step ≡ o.step → ⊥) → s.key ≡ o.key → (s.to < o.from) ⊎ (o.to < s.from)
 
 -- a run executes
 pub record Executes (run : PlainRun) : Type 0 where

@@ -1,7 +1,7 @@
 -- What entries and spans in an arena stand for.
 use Rattle.std.specs.Prelude.{Bool, List, map}
 use Rattle.stp_cond.specs.declared.cond.Cond.{Cond}
-use Rattle.stp_cond.specs.Truth.{meaning_of}
+use Rattle.stp_cond.specs.Truth.{meaning_of, state_of_row}
 use Rattle.stp_cond.specs.Events.{event_of}
 use Rattle.stp_happen.specs.declared.run.Entry.{Entry}
 use Rattle.stp_happen.specs.declared.run.Span.{Span}
@@ -21,4 +21,4 @@ spans_of spans = map span_of spans
 
 -- the run that these make
 abbrev pub run_of : List Entry → List Span → List Bool → Cond → PlainRun
-run_of entries spans initial goal = record { entries = entries_of entries; spans = spans_of spans; initial = initial; goal = meaning_of goal }
+run_of entries spans initial goal = record { entries = entries_of entries; spans = spans_of spans; initial = state_of_row initial; goal = meaning_of goal }

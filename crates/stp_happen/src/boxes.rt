@@ -1,4 +1,4 @@
-//! Steps of a plan whose durations are chosen later.
+//! Steps of a plan and events of the environment, whose ends and moments are chosen later.
 
 ghost use Rattle.stp_happen.specs.SoundBox.{IsBox};
 
@@ -20,12 +20,26 @@ pub struct BoxStep<'a> {
     pub over: &'a Cond<'a>,
 }
 
-/// The steps of a plan on a grid, the initial state and the goal.
+/// An event of the environment: its least and greatest moment, and what happens then.
+///
+/// The two are equal unless the moment is chosen later.
+#[derive(Clone, Copy)]
+pub struct BoxTimed<'a> {
+    pub low: u128,
+    pub high: u128,
+    pub uncertain: bool,
+    pub event: Event<'a>,
+}
+
+/// The steps of a plan and the events of the environment on a grid, the initial state and the goal.
+///
+/// The events at fixed moments come first, by moment.
 #[derive(Drop)]
 pub struct BoxRun<'a> {
     pub grid: u128,
     pub steps: List<BoxStep<'a>>,
+    pub timed: List<BoxTimed<'a>>,
     pub initial: StateRow,
     pub goal: &'a Cond<'a>,
-    pub ghost sound: { ∥ IsBox grid steps initial goal.now ∥₁ },
+    pub ghost sound: { ∥ IsBox grid steps timed initial goal.now ∥₁ },
 }

@@ -24,7 +24,7 @@ fn run_through(entries: &[Entry<'_>], spans: &[Span<'_>], row: &mut StateRow) ->
     requires entries { All (λ e. IsEventInRange (length row.old) e.event) entries.now }
     requires spans { All (λ s. is_below (length row.old) s.over.now ≡ true) spans.now }
     ensures len { length row.new ≡ length row.old }
-    ensures state { (a : ℕ) → state_of_row row.new a ≡ state_after row.old (entries_of entries.now) a }
+    ensures state { (a : ℕ) → state_of_row row.new a ≡ state_after (state_of_row row.old) (entries_of entries.now) a }
     ensures interference { result.interference ≡ first_of (interferences (entries_of entries.now)) }
     ensures condition { result.condition ≡ first_of (conditions (run_of entries.now spans.now row.old Cond.True)) }
     ensures over_all { result.over_all ≡ first_of (over_alls (run_of entries.now spans.now row.old Cond.True)) }

@@ -2,6 +2,7 @@
 
 ghost use Rattle.stp_happen.specs.Moves.{MovedRunsAgree, FinerRunsAgree, FinerBoxesMakeFinerRuns, CertainBoxesAreStrong};
 ghost use Rattle.stp_happen.specs.LeastFailure.{LeastFailureIsOne};
+ghost use Rattle.stp_happen.specs.Owners.{OwnersAreFiner, VectorsAreDurationsAndMoments};
 ghost use Rattle.stp_happen.specs.Orders.{OrderIsFree, FirstFaultIsFreeOfOrder};
 
 /// A run executes exactly where it does with its moments moved in order.
@@ -19,7 +20,17 @@ pub fn finer_boxes_make_finer_runs()
     ensures { FinerBoxesMakeFinerRuns }
 {}
 
-/// A box without uncertain steps is strong exactly where its one run executes.
+/// A vector has a duration for each uncertain step, and then a moment for each event whose moment is chosen.
+pub fn vectors_are_durations_and_moments()
+    ensures { VectorsAreDurationsAndMoments }
+{}
+
+/// The owners of finer steps and events are the finer owners.
+pub fn owners_are_finer()
+    ensures { OwnersAreFiner }
+{}
+
+/// A box without uncertain owners is strong exactly where its one run executes.
 pub fn certain_boxes_are_strong()
     ensures { CertainBoxesAreStrong }
 {}

@@ -6,7 +6,6 @@ ghost use Rattle.std.specs.List.Sorted.{IsNonDecreasingBy};
 ghost use Rattle.stp_cond.specs.Atoms.{has};
 ghost use Rattle.stp_cond.specs.Events.{IsEventInRange};
 ghost use Rattle.stp_cond.specs.Truth.{is_below, state_of_row};
-ghost use Rattle.stp_cond.specs.Views.{atoms_of};
 ghost use Rattle.stp_happen.specs.Faults.{condition_in, over_all_in, interferences};
 ghost use Rattle.stp_happen.specs.Firsts.{changed, first_from};
 ghost use Rattle.stp_happen.specs.Views.{entry_of, span_of, entries_of, spans_of};
@@ -15,8 +14,9 @@ use crate::fault::Fault;
 use crate::pairs::first_interference;
 use crate::run::{Entry, Span};
 use crate::sooner::sooner;
-use stp_base::{AtomId, StateRow};
+use stp_base::StateRow;
 use stp_cond::holds;
+use stp_cond::rows::set_all;
 
 /// The fault of an event that does not find what it needs in a row.
 fn condition(entry: &Entry<'_>, row: &StateRow) -> Option<Fault>
@@ -74,17 +74,6 @@ fn first_over_all(
         best = sooner(best, over_all(time, span, row));
     }
     best
-}
-
-/// Makes all of these atoms true, or all of them false.
-fn set_all(row: &mut StateRow, atoms: &[AtomId], value: bool)
-    requires { All (λ a. a.0 < length row.old) atoms.now }
-    ensures len { length row.new ≡ length row.old }
-    ensures state { (a : ℕ) → state_of_row row.new a ≡ (if has (atoms_of atoms.now) a then value else state_of_row row.old a) }
-{
-    for atom in atoms {
-        row.set(*atom, value);
-    }
 }
 
 /// Makes false what any of these entries deletes.

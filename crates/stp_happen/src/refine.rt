@@ -1,11 +1,13 @@
 //! The same box on a finer grid.
 
-ghost use Rattle.std.specs.Prelude.{◌≡◌, ℕ, ◌*◌, ◌^◌, ◌<◌, ◌≤◌, length, map, All, IfOk};
-ghost use Rattle.stp_happen.specs.SoundBox.{IsBoxStep};
-ghost use Rattle.stp_happen.specs.Boxes.{step_of, steps_of, finer_step, plain_box, finer_box};
+ghost use Rattle.std.specs.Prelude.{◌≡◌, ℕ, ◌*◌, ◌^◌, ◌<◌, ◌≤◌, map, All, IfOk};
+ghost use Rattle.stp_happen.specs.Boxes.{finer_box};
+ghost use Rattle.stp_happen.specs.BoxViews.{plain_box};
+ghost use Rattle.stp_happen.specs.Owners.{finer_step, finer_timed};
+ghost use Rattle.stp_happen.specs.SoundBox.{IsBoxStep, IsBoxTimed};
+ghost use Rattle.stp_happen.specs.StepViews.{plain_timed, step_of, steps_of, timed_of};
 
-use crate::boxes::{BoxRun, BoxStep};
-use crate::run_at::copy_of;
+use crate::boxes::{BoxRun, BoxStep, BoxTimed};
 use std::alloc::Global;
 use stp_base::{List, Memory};
 
@@ -48,6 +50,40 @@ fn refined_steps<'a>(
     Ok(refined)
 }
 
+/// The same event on a grid that is so many times as fine.
+fn refined_event<'a>(timed: &BoxTimed<'a>, factor: u128) -> BoxTimed<'a>
+    requires factor { (0 < factor) × (factor < 2 ^ 32) }
+    requires low { timed.now.low < 2 ^ 64 }
+    requires high { timed.now.high < 2 ^ 64 }
+    ensures same { plain_timed result ≡ finer_timed factor (plain_timed timed.now) }
+    ensures in_range { (grid n : ℕ) → IsBoxTimed grid n timed.now → IsBoxTimed (grid * factor) n result }
+{
+    BoxTimed {
+        low: factor * timed.low,
+        high: factor * timed.high,
+        uncertain: timed.uncertain,
+        event: timed.event,
+    }
+}
+
+/// The same events on a grid that is so many times as fine.
+fn refined_events<'a>(
+    alloc: Global,
+    timed: &[BoxTimed<'a>],
+    factor: u128,
+) -> Result<List<BoxTimed<'a>>, Memory>
+    requires factor { (0 < factor) × (factor < 2 ^ 32) }
+    requires small { All (λ e. (e.low < 2 ^ 64) × (e.high < 2 ^ 64)) timed.now }
+    ensures same { IfOk result (λ r. timed_of r ≡ map (finer_timed factor) (timed_of timed.now)) }
+    ensures in_range { IfOk result (λ r. (grid n : ℕ) → All (IsBoxTimed grid n) timed.now → All (IsBoxTimed (grid * factor) n) r) }
+{
+    let mut refined = List::new(alloc);
+    for event in timed {
+        refined.push(refined_event(event, factor))?;
+    }
+    Ok(refined)
+}
+
 /// The same box on a grid that is so many times as fine.
 pub fn refine<'a>(alloc: Global, boxed: &BoxRun<'a>, factor: u128) -> Result<BoxRun<'a>, Memory>
     requires factor { 1 ≤ factor }
@@ -56,11 +92,13 @@ pub fn refine<'a>(alloc: Global, boxed: &BoxRun<'a>, factor: u128) -> Result<Box
     ensures grid { IfOk result (λ r. r.grid ≡ boxed.now.grid * factor) }
 {
     let steps = refined_steps(alloc, boxed.steps.as_slice(), factor)?;
-    let initial = copy_of(alloc, &boxed.initial)?;
+    let timed = refined_events(alloc, boxed.timed.as_slice(), factor)?;
+    let initial = boxed.initial.copy(alloc)?;
     let grid = boxed.grid * factor;
     Ok(BoxRun {
         grid,
         steps,
+        timed,
         initial,
         goal: boxed.goal,
     })

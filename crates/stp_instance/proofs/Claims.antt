@@ -7,8 +7,8 @@ use Rattle.stp_schema.specs.declared.lifted.Lifted.{Lifted}
 use Rattle.stp_schema.specs.declared.lifted.Lifted.TheVariants as lifted
 use Rattle.stp_schema.specs.Formula.{formula, formulas_of}
 use Rattle.stp_schema.proofs.Equations.{formula_atom, formula_same, formula_not, formula_and, formula_or, formula_every, formula_any}
-use Rattle.stp_atoms.specs.Atoms.{atom_with}
-use Rattle.stp_binding.specs.Bindings.{numbers_of, object_of, objects_of}
+use Rattle.stp_tables.specs.Atoms.{atom_with}
+use Rattle.stp_instance.specs.Bindings.{numbers_of, object_of, objects_of}
 use Rattle.stp_instance.specs.declared.ground.Ground.{Ground}
 use Rattle.stp_instance.specs.declared.ground.Ground.TheOpen.{Ground-F}
 use Rattle.stp_instance.specs.declared.ground.Ground.TheVariants.{Fact, Same, Opposite, Every, Any, rolls-Fact, rolls-Same, rolls-Opposite, rolls-Every, rolls-Any}

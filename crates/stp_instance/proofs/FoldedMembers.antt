@@ -1,6 +1,6 @@
 -- What folding makes of the members of a condition.
 use Rattle.std.proofs.Common.{◌≡◌, ℕ, Bool, List, [], ◌∷◌, map, Bor, refl, ap, sym, ◌∙◌}
-use Rattle.stp_atoms.specs.Atoms.{Atom}
+use Rattle.stp_tables.specs.Atoms.{Atom}
 use Rattle.stp_cond.specs.declared.cond.Cond.{Cond}
 use Rattle.stp_cond.specs.declared.known.Three.TheVariants.{Unknown}
 use Rattle.stp_cond.specs.Formulas.{view}

@@ -1,16 +1,15 @@
 -- Tables that gain atoms: which atoms they have, how often, and with which numbers.
 use Rattle.std.proofs.Common.{◌≡◌, ℕ, suc, ◌+◌, ◌<◌, Bool, true, false, not, cond, ◌||◌, if◌then◌else◌, nat_lt, List, [], ◌∷◌, ◌++◌, length, get_or, Some, None, refl, ap, sym, ◌∙◌, arith, Contains}
-use Rattle.std.specs.Prelude.{position}
 use Rattle.std.specs.Option.{is_some}
 use Rattle.std.specs.List.{list_any, count_by, position_or_len}
-use Rattle.std.proofs.lemmas.Bool.{both_ways, lt-ltb, or_parts}
+use Rattle.std.proofs.lemmas.Bool.{both_ways, or_parts}
 use Rattle.std.proofs.lemmas.Bool.Decides.{nat_tests}
-use Rattle.std.proofs.lemmas.List.{append-nil, length-append, get_or_append_left}
+use Rattle.std.proofs.lemmas.List.{append-nil}
 use Rattle.std.proofs.lemmas.List.Folds.{list_any-append, list_any_at}
-use Rattle.std.proofs.lemmas.List.Quantifiers.{position-Some}
-use Rattle.std.proofs.lemmas.List.Sums.{position_or_len_is, sum_by-cons, sum_by-append}
-use Rattle.std.proofs.lemmas.Slice.Eq.{bytes_eq-Decides}
-use Rattle.stp_atoms.specs.Atoms.{Atom, is_atom, number_of, with_atom}
+use Rattle.std.proofs.lemmas.List.Sums.{sum_by-cons, sum_by-append}
+use Rattle.stp_tables.specs.Atoms.{Atom, is_atom, number_of, with_atom}
+use Rattle.stp_tables.proofs.AtomKeys.{atoms_same, same_atom}
+use Rattle.stp_tables.proofs.FirstSight.{first_stays}
 use Rattle.stp_instance.specs.Numbered.{is_in, IsGrown, with_atoms}
 use Rattle.stp_instance.proofs.Gathered.{grown_again}
 
@@ -24,34 +23,12 @@ pub with_atoms_grow : (table atoms : List Atom) → IsGrown table (with_atoms ta
 with_atoms_grow table [] = ([], sym (append-nil table))
 with_atoms_grow table (atom ∷ rest) = grown_again table (with_atom table atom) (with_atoms (with_atom table atom) rest) (grown_one (list_any (is_atom atom) table) table atom) (with_atoms_grow (with_atom table atom) rest)
 
-placed : (b : Bool) (n m : ℕ) → b ≡ true → n ≡ m → cond b (Some n) None ≡ Some m
-placed b n m e f = cc
-
-first_stays : (p : Atom → Bool) (xs ys : List Atom) (n : ℕ) (d : Atom) → (n < length xs) × (p (get_or xs n d) ≡ true) × ((k : ℕ) → k < n → p (get_or xs k d) ≡ false) → position p (xs ++ ys) ≡ Some n
-first_stays p xs ys n d first =
-    let l = length-append xs ys in
-    let within = first.0 in
-    let place : position_or_len p (xs ++ ys) ≡ n = position_or_len_is p (xs ++ ys) n d (omega (arith, l, within)) (λ k h. ap p (get_or_append_left xs ys d k (omega (arith, h, within))) ∙ first.2 k h) (λ _. ap p (get_or_append_left xs ys d n within) ∙ first.1) in
-    placed (nat_lt (position_or_len p (xs ++ ys)) (length (xs ++ ys))) (position_or_len p (xs ++ ys)) n (lt-ltb (position_or_len p (xs ++ ys)) (length (xs ++ ys)) (omega (arith, l, within, place))) place
-
 pub numbers_stay : (old new : List Atom) (atom : Atom) (number : ℕ) → IsGrown old new → number_of old atom ≡ Some number → number_of new atom ≡ Some number
 numbers_stay old new atom number grown e =
     ap (λ t. number_of t atom) grown.1
-    ∙ first_stays (is_atom atom) old grown.0 number (record { predicate = 0; args = [] }) (position-Some (is_atom atom) old number (record { predicate = 0; args = [] }) e)
+    ∙ first_stays (is_atom atom) old grown.0 number (record { predicate = 0; args = [] }) e
 
 -- ---- which atoms a table has
-
-pub same_atom : (atom : Atom) → is_atom atom atom ≡ true
-same_atom atom = grind (arith, nat_tests, bytes_eq-Decides)
-
-abbrev pub atom_by : ℕ → List ℕ → Atom
-atom_by predicate args = record { predicate = predicate; args = args }
-
-pub atoms_same : (one other : Atom) → is_atom one other ≡ true → one ≡ other
-atoms_same one other e = same_parts one other (grind (arith, nat_tests, bytes_eq-Decides, e)) (grind (arith, nat_tests, bytes_eq-Decides, e))
-  where
-    same_parts : (one other : Atom) → one.predicate ≡ other.predicate → one.args ≡ other.args → one ≡ other
-    same_parts one other e f = ap (λ n. atom_by n one.args) e ∙ ap (atom_by other.predicate) f
 
 next_within : (b : Bool) (n m : ℕ) → nat_lt (cond (not b) (1 + n) 0) (suc m) ≡ (b || nat_lt n m)
 next_within true n m = grind (arith, nat_tests)

@@ -4,7 +4,7 @@ use Rattle.std.specs.List.{cons_option}
 use Rattle.std.proofs.lemmas.List.{drop_more}
 use Rattle.std.proofs.lemmas.List.Elements.{filter_map-append}
 use Rattle.stp_base.specs.declared.ids.ObjectId.{ObjectId}
-use Rattle.stp_atoms.specs.Atoms.{Atom, atom_with, number_of, with_atom}
+use Rattle.stp_tables.specs.Atoms.{Atom, atom_with, number_of, with_atom}
 use Rattle.stp_instance.specs.declared.ground.Ground.{Ground}
 use Rattle.stp_instance.specs.declared.ground.Ground.TheVariants.{Fact}
 use Rattle.stp_instance.specs.Expanded.{claims_of}

@@ -2,7 +2,7 @@
 use Rattle.std.proofs.Common.{◌≡◌, ℕ, Bool, true, false, List, [], ◌∷◌, ◌++◌, length, map, take, ap, sym, ◌∙◌}
 use Rattle.std.proofs.lemmas.List.{append_assoc, map-append, take-map, take_at}
 use Rattle.stp_base.specs.declared.ids.ObjectId.{ObjectId}
-use Rattle.stp_binding.specs.Bindings.{numbers_of}
+use Rattle.stp_instance.specs.Bindings.{numbers_of}
 use Rattle.stp_instance.specs.declared.ground.Ground.{Ground}
 use Rattle.stp_instance.specs.Expanded.{Claim}
 use Rattle.stp_instance.specs.Views.{claim}

@@ -1,3 +1,6 @@
+pub mod Weights
+pub mod ValueTables
+pub mod Operators
 pub mod OfType
 pub mod Wheels
 pub mod Claims

@@ -5,10 +5,10 @@ use Rattle.std.specs.List.{filter, range_with_len}
 use Rattle.std.proofs.lemmas.List.{append-nil, map-append, map-id, get_or-map}
 use Rattle.std.proofs.lemmas.List.FromFn.{filter_of_map_range_with_len_more}
 use Rattle.stp_base.specs.declared.ids.ObjectId.{ObjectId}
-use Rattle.stp_ancestors.specs.Forest.{is_below}
+use Rattle.stp_types.specs.Forest.{is_below}
 use Rattle.stp_schema.specs.Rows.{thing_of}
 use Rattle.stp_schema.specs.declared.rows.ObjectRow.{ObjectRow}
-use Rattle.stp_binding.specs.Bindings.{numbers_of}
+use Rattle.stp_instance.specs.Bindings.{numbers_of}
 
 -- those of the first so many numbers that pass a test
 abbrev pub passing : (ℕ → Bool) → ℕ → List ℕ

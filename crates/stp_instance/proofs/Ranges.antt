@@ -7,10 +7,10 @@ use Rattle.std.proofs.lemmas.List.Elements.{All-contains, Contains-get_or}
 use Rattle.std.proofs.lemmas.List.FromFn.{length-range_with_len, get_or-range_with_len}
 use Rattle.std.proofs.lemmas.List.Folds.{list_all-append, list_any-append, list_all-map, Any-from_list_any, list_any_at}
 use Rattle.std.proofs.lemmas.List.Sums.{AllPass-from_list_all, list_all-from_AllPass}
-use Rattle.stp_ancestors.specs.Forest.{is_below}
+use Rattle.stp_types.specs.Forest.{is_below}
 use Rattle.stp_schema.specs.Rows.{Thing}
-use Rattle.stp_schema.specs.Formula.{Formula, ForEach, ForAny}
-use Rattle.stp_atoms.specs.Atoms.{Atom}
+use Rattle.stp_schema.specs.Formula.{Formula, Every as ForEach, Any as ForAny}
+use Rattle.stp_tables.specs.Atoms.{Atom}
 use Rattle.stp_cond.specs.Atoms.{has}
 use Rattle.stp_cond.proofs.Rising.{has_from_Contains, Contains_from_has}
 use Rattle.stp_instance.specs.Expanded.{Claim, claims_of, objects_below, bindings_of, expanded}

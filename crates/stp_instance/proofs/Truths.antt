@@ -1,6 +1,6 @@
 -- The truth of a condition by numbers.
 use Rattle.std.proofs.Common.{◌≡◌, ℕ, Bool, true, false, not, ◌&&◌, ◌||◌, ◌==◌, if◌then◌else◌, List, Option, None, Some, refl, ap, ◌∙◌}
-use Rattle.stp_atoms.specs.Atoms.{Atom, number_of}
+use Rattle.stp_tables.specs.Atoms.{Atom, number_of}
 use Rattle.stp_cond.specs.declared.known.Three.TheVariants.{Unknown}
 use Rattle.stp_cond.specs.Formulas.{holds_in, all_hold, some_holds}
 use Rattle.stp_cond.proofs.Meaning.{folding_keeps_truth}

@@ -5,7 +5,7 @@ use Rattle.std.proofs.lemmas.Bool.{and_parts, and_from, lt-ltb}
 use Rattle.std.proofs.lemmas.Bool.Decides.{nat_tests}
 use Rattle.std.proofs.lemmas.List.{append-nil, append_assoc, take_more, take_rest, take-set, take_all, drop_all, drop-set, set_split}
 use Rattle.stp_base.specs.declared.ids.ObjectId.{ObjectId}
-use Rattle.stp_binding.specs.Bindings.{numbers_of}
+use Rattle.stp_instance.specs.Bindings.{numbers_of}
 use Rattle.stp_instance.specs.declared.wheel.Wheel.{Wheel}
 use Rattle.stp_instance.specs.Expanded.{bindings_of}
 use Rattle.stp_instance.specs.Turning.{choices_of, rest_of, shown, has_choice, left}

@@ -4,7 +4,7 @@ use Rattle.std.specs.List.{cons_option}
 use Rattle.std.proofs.lemmas.List.{append-nil, map-append, map_more}
 use Rattle.std.proofs.lemmas.List.Elements.{filter_map-append}
 use Rattle.stp_base.specs.declared.ids.AtomId.{AtomId}
-use Rattle.stp_atoms.specs.Atoms.{Atom, number_of}
+use Rattle.stp_tables.specs.Atoms.{Atom, number_of}
 use Rattle.stp_cond.specs.Views.{atoms_of}
 use Rattle.stp_instance.specs.declared.effects.Written.{Written}
 use Rattle.stp_instance.specs.Numbered.{numbers_in}

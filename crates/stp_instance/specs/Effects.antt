@@ -1,8 +1,8 @@
 -- What an effect adds and deletes under a binding.
 use Rattle.std.specs.Prelude.{ℕ, List, map}
 use Rattle.stp_schema.specs.Formula.{PlainAtom}
-use Rattle.stp_atoms.specs.Atoms.{Atom, atom_with}
-use Rattle.stp_binding.specs.Bindings.{objects_of}
+use Rattle.stp_tables.specs.Atoms.{Atom, atom_with}
+use Rattle.stp_instance.specs.Bindings.{objects_of}
 use Rattle.stp_cond.specs.Atoms.{set_of, without}
 use Rattle.stp_instance.specs.declared.effects.Written.{Written}
 use Rattle.stp_instance.specs.Numbered.{numbers_in}

@@ -1,11 +1,11 @@
 -- Conditions over ground atoms, and what a condition is under a binding once its quantifiers are expanded.
 use Rattle.std.specs.Prelude.{ℕ, List, [], ◌∷◌, ◌++◌, map, length, filter, slice_index}
 use Rattle.std.specs.List.{flat_map, range_with_len}
-use Rattle.stp_ancestors.specs.Forest.{is_below}
+use Rattle.stp_types.specs.Forest.{is_below}
 use Rattle.stp_schema.specs.Rows.{Thing}
-use Rattle.stp_schema.specs.Formula.{Formula, Formulas, Holds, Equal, Negation, Each, Either, ForEach, ForAny, NoFormulas, And}
-use Rattle.stp_atoms.specs.Atoms.{Atom}
-use Rattle.stp_binding.specs.Bindings.{object_of, objects_of}
+use Rattle.stp_schema.specs.Formula.{Formula, Formulas, Atom as Holds, Same as Equal, Not as Negation, And as Each, Or as Either, Every as ForEach, Any as ForAny, NoMore as NoFormulas, More as And}
+use Rattle.stp_tables.specs.Atoms.{Atom}
+use Rattle.stp_instance.specs.Bindings.{object_of, objects_of}
 
 -- a ground atom, an equality of two objects, or what is made of others
 mutual

@@ -1,10 +1,10 @@
 -- Laws of numbers, and of expanded and folded conditions.
 use Rattle.std.specs.Prelude.{◌≡◌, ◌↔◌, ℕ, ◌<◌, Bool, true, false, not, ◌&&◌, ◌||◌, ◌==◌, if◌then◌else◌, List, [], ◌∷◌, ◌++◌, length, map, slice_index, Option, None, Some, Contains}
 use Rattle.std.specs.List.{list_any, count_by}
-use Rattle.stp_ancestors.specs.Forest.{is_below}
+use Rattle.stp_types.specs.Forest.{is_below}
 use Rattle.stp_schema.specs.Rows.{Thing}
-use Rattle.stp_schema.specs.Formula.{Formula, ForEach, ForAny}
-use Rattle.stp_atoms.specs.Atoms.{Atom, is_atom, number_of}
+use Rattle.stp_schema.specs.Formula.{Formula, Every as ForEach, Any as ForAny}
+use Rattle.stp_tables.specs.Atoms.{Atom, is_atom, number_of}
 use Rattle.stp_cond.specs.Formulas.{holds_in}
 use Rattle.stp_instance.specs.Expanded.{Claim, Claims, Stated, Alike, Denied, AllOf, AnyOf, NoClaims, Also, objects_below, expanded}
 use Rattle.stp_instance.specs.Numbered.{is_in, with_atoms, IsGrown, numbered, folded_ground}

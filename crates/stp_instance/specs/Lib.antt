@@ -1,3 +1,8 @@
+pub mod Bindings
+pub mod Values
+pub mod Operators
+pub mod ValueTables
+pub mod Timings
 pub mod Expanded
 pub mod Typing
 pub mod Views

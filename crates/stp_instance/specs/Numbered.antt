@@ -2,7 +2,7 @@
 use Rattle.std.specs.Prelude.{◌≡◌, ℕ, Bool, true, false, ◌==◌, if◌then◌else◌, List, [], ◌∷◌, ◌++◌, Option, None, Some, slice_index_or}
 use Rattle.std.specs.Option.{is_some}
 use Rattle.std.specs.List.{filter_map}
-use Rattle.stp_atoms.specs.Atoms.{Atom, number_of, with_atom}
+use Rattle.stp_tables.specs.Atoms.{Atom, number_of, with_atom}
 use Rattle.stp_cond.specs.declared.known.Three.TheVariants.{Unknown}
 use Rattle.stp_cond.specs.Formulas.{Formula, Formulas, Always, Never, Atomic, Negation, Conjunction, Disjunction, NoMore, More}
 use Rattle.stp_cond.specs.Folded.{folded}

@@ -1,7 +1,7 @@
 -- Wheels that turn through all bindings of the variables of a quantifier, the last one fastest.
 use Rattle.std.specs.Prelude.{◌≡◌, ℕ, Bool, true, false, nat_lt, List, [], ◌∷◌, ◌++◌, map, drop, length, slice_index}
 use Rattle.std.specs.List.{flat_map}
-use Rattle.stp_binding.specs.Bindings.{numbers_of}
+use Rattle.stp_instance.specs.Bindings.{numbers_of}
 use Rattle.stp_instance.specs.declared.wheel.Wheel.{Wheel}
 use Rattle.stp_instance.specs.Expanded.{bindings_of}
 

@@ -1,5 +1,5 @@
 -- What a condition over ground atoms in an arena stands for.
-use Rattle.stp_atoms.specs.Atoms.{atom_with}
+use Rattle.stp_tables.specs.Atoms.{atom_with}
 use Rattle.stp_instance.specs.declared.ground.Ground.{Ground}
 use Rattle.stp_instance.specs.declared.ground.Ground.TheOpen.{Ground-F}
 use Rattle.stp_instance.specs.declared.ground.Ground.TheFolds.{fold-Ground}

@@ -2,20 +2,19 @@
 
 ghost use Rattle.std.specs.Prelude.{◌≡◌, map, IfOk, OnOk};
 ghost use Rattle.stp_schema.specs.Formula.{atoms_of as plain_atoms_of};
-ghost use Rattle.stp_binding.specs.Bindings.{numbers_of};
-ghost use Rattle.stp_cond.specs.Atoms.{has, set_of, without as without_lem};
+ghost use Rattle.stp_instance.specs.Bindings.{numbers_of};
 ghost use Rattle.stp_cond.specs.Views.{atoms_of};
 ghost use Rattle.stp_instance.specs.Numbered.{IsGrown, numbers_in, with_atoms};
 ghost use Rattle.stp_instance.specs.Effects.{added, deleted, ground_atoms, written_atoms};
 
+use crate::objects_under;
 use bumpalo::Bump;
 use bumpalo::collections::into_bump_slice;
 use std::alloc::Global;
-use stp_atoms::AtomTable;
 use stp_base::{AtomId, Memory, ObjectId};
-use stp_binding::objects_under;
-use stp_cond::ascending;
+use stp_cond::{ascending, without};
 use stp_schema::LiftedAtom;
+use stp_tables::AtomTable;
 
 /// An atom that an effect writes.
 #[derive(Clone, Copy)]
@@ -66,29 +65,6 @@ fn numbers(alloc: Global, table: &AtomTable, written: &[Written<'_>]) -> Result<
         }
     }
     Ok(out)
-}
-
-/// Whether an atom is among ascending ones.
-fn is_among(atoms: &[AtomId], atom: AtomId) -> bool
-    requires { set_of (atoms_of atoms.now) ≡ atoms_of atoms.now }
-    ensures { result ≡ has (atoms_of atoms.now) atom.0 }
-{
-    atoms.binary_search_by_key(&atom.0, |a| a.0).is_ok()
-}
-
-/// Those atoms of the one list that are not in the other, which is ascending.
-fn without<'a>(arena: &'a Bump, atoms: &[AtomId], other: &[AtomId]) -> Result<&'a [AtomId], Memory>
-    requires { set_of (atoms_of other.now) ≡ atoms_of other.now }
-    ensures { IfOk result
-        (λ r. atoms_of r.now ≡ without_lem (atoms_of atoms.now) (atoms_of other.now)) }
-{
-    let mut left = Vec::with_capacity(arena, atoms.len())?;
-    for atom in atoms {
-        if !is_among(other, *atom) {
-            left.push(*atom)?;
-        }
-    }
-    Ok(into_bump_slice(left))
 }
 
 /// The numbered atoms that an effect adds, and those that it deletes: an atom that is both is added. Both lists are

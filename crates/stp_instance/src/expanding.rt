@@ -2,7 +2,7 @@
 
 ghost use Rattle.std.specs.Prelude.{◌≡◌, ◌++◌, map, IfOk, OnOk};
 ghost use Rattle.stp_schema.specs.Formula.{formula};
-ghost use Rattle.stp_binding.specs.Bindings.{numbers_of};
+ghost use Rattle.stp_instance.specs.Bindings.{numbers_of};
 ghost use Rattle.stp_instance.specs.Expanded.{bindings_of, expanded};
 ghost use Rattle.stp_instance.specs.Typing.{objects_in};
 ghost use Rattle.stp_instance.specs.Views.{claim};
@@ -10,11 +10,11 @@ ghost use Rattle.stp_instance.specs.Views.{claim};
 use crate::ground::Ground;
 use crate::members::Members;
 use crate::odometer::Odometer;
+use crate::{object_under, objects_under};
 use bumpalo::Bump;
 use bumpalo::collections::into_bump_slice;
 use std::alloc::Global;
 use stp_base::{Memory, ObjectId};
-use stp_binding::{object_under, objects_under};
 use stp_schema::Lifted;
 
 /// A condition under a binding of its variables: a quantifier becomes the conjunction, or the disjunction, of its

@@ -1,23 +1,22 @@
 //! What is left of conditions once what is static is known.
 
 ghost use Rattle.std.specs.Prelude.{◌≡◌, map, IfOk};
-ghost use Rattle.stp_atoms.specs.Atoms.{atom_with};
+ghost use Rattle.stp_tables.specs.Atoms.{atom_with};
 ghost use Rattle.stp_cond.specs.Formulas.{view};
-ghost use Rattle.stp_cond.specs.Folded.{folded_and, folded_not, folded_or, is_always, is_never};
-ghost use Rattle.stp_instance.specs.Numbered.{constant as constant_lem, folded_ground, is_fluent as is_fluent_lem, is_in, numbered_atom};
+ghost use Rattle.stp_instance.specs.Numbered.{constant, folded_ground, is_fluent, is_in, numbered_atom};
 ghost use Rattle.stp_instance.specs.Views.{claim};
 
 use crate::ground::Ground;
 use crate::numbering::is_fluent;
 use bumpalo::Bump;
 use std::alloc::Global;
-use stp_atoms::AtomTable;
 use stp_base::{Memory, ObjectId};
-use stp_cond::{Cond, negate};
+use stp_cond::{Cond, fold_and, fold_not, fold_or};
+use stp_tables::AtomTable;
 
 /// True or false.
 fn constant<'a>(value: bool) -> Cond<'a>
-    ensures { view result ≡ constant_lem value }
+    ensures { view result ≡ constant value }
 {
     if value { Cond::True } else { Cond::False }
 }
@@ -30,7 +29,7 @@ fn fold_fact<'a>(
     predicate: u32,
     args: &[ObjectId],
 ) -> Cond<'a>
-    ensures { view result ≡ numbered_atom (is_fluent_lem fluent.now) (is_in facts.now) table.now (atom_with predicate args.now) }
+    ensures { view result ≡ numbered_atom (is_fluent fluent.now) (is_in facts.now) table.now (atom_with predicate args.now) }
 {
     if !is_fluent(fluent, predicate) {
         return constant(facts.find(predicate, args).is_some());
@@ -38,61 +37,6 @@ fn fold_fact<'a>(
     match table.find(predicate, args) {
         Some(atom) => Cond::Atom(atom),
         None => Cond::False,
-    }
-}
-
-/// Whether a formula is the constant true.
-fn is_true(cond: &Cond<'_>) -> bool
-    ensures { result ≡ is_always (view cond.now) }
-{
-    matches!(cond, Cond::True)
-}
-
-/// Whether a formula is the constant false.
-fn is_false(cond: &Cond<'_>) -> bool
-    ensures { result ≡ is_never (view cond.now) }
-{
-    matches!(cond, Cond::False)
-}
-
-/// The negation of a folded formula.
-fn fold_not<'a>(arena: &'a Bump, part: &Cond<'a>) -> Result<Cond<'a>, Memory>
-    ensures { IfOk result (λ r. view r ≡ folded_not (view part.now)) }
-{
-    match part {
-        Cond::True => Ok(Cond::False),
-        Cond::False => Ok(Cond::True),
-        _ => negate(arena, part),
-    }
-}
-
-/// The conjunction of folded formulas.
-fn fold_and<'a>(arena: &'a Bump, mut parts: Vec<Cond<'a>>) -> Result<Cond<'a>, Memory>
-    ensures { IfOk result (λ r. view r ≡ folded_and (map view parts.entry.items)) }
-{
-    if parts.iter().any(is_false) {
-        return Ok(Cond::False);
-    }
-    parts.retain(|part| !is_true(part));
-    match parts.as_slice() {
-        [] => Ok(Cond::True),
-        [only] => Ok(*only),
-        several => Ok(Cond::And(arena.try_alloc_slice_copy(several)?)),
-    }
-}
-
-/// The disjunction of folded formulas.
-fn fold_or<'a>(arena: &'a Bump, mut parts: Vec<Cond<'a>>) -> Result<Cond<'a>, Memory>
-    ensures { IfOk result (λ r. view r ≡ folded_or (map view parts.entry.items)) }
-{
-    if parts.iter().any(is_true) {
-        return Ok(Cond::True);
-    }
-    parts.retain(|part| !is_false(part));
-    match parts.as_slice() {
-        [] => Ok(Cond::False),
-        [only] => Ok(*only),
-        several => Ok(Cond::Or(arena.try_alloc_slice_copy(several)?)),
     }
 }
 
@@ -107,7 +51,7 @@ fn fold_all<'a>(
     grounds: &[Ground<'_>],
 ) -> Result<Vec<Cond<'a>>, Memory>
     ensures { IfOk result
-        (λ r. map view r.items ≡ map (λ g. folded_ground (is_fluent_lem fluent.now) (is_in facts.now) table.now (claim g)) grounds.now) }
+        (λ r. map view r.items ≡ map (λ g. folded_ground (is_fluent fluent.now) (is_in facts.now) table.now (claim g)) grounds.now) }
 {
     let mut out = Vec::with_capacity(alloc, grounds.len())?;
     for ground in grounds {
@@ -131,7 +75,7 @@ pub fn fold_ground<'a>(
     ground: &Ground<'_>,
 ) -> Result<Cond<'a>, Memory>
     ensures { IfOk result
-        (λ r. view r ≡ folded_ground (is_fluent_lem fluent.now) (is_in facts.now) table.now (claim ground.now)) }
+        (λ r. view r ≡ folded_ground (is_fluent fluent.now) (is_in facts.now) table.now (claim ground.now)) }
 {
     match ground {
         Ground::Fact(predicate, args) => Ok(fold_fact(table, fluent, facts, *predicate, args)),

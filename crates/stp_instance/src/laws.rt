@@ -1,7 +1,13 @@
-//! Laws of the definitions by which the contracts speak of numbers and of what is left of conditions. Nothing here
-//! runs.
+//! Laws of the definitions by which the contracts speak of durations, of numbers and of what is left of conditions.
+//! Nothing here runs.
 
 ghost use Rattle.stp_instance.specs.Laws.{AtomsAreGained, NumbersKeepTruth, NumbersStay, QuantifiersRange};
+ghost use Rattle.stp_instance.specs.Timings.{DurationsAreLawful};
+
+/// The duration that a timing gives is lawful.
+pub fn durations_are_lawful()
+    ensures { DurationsAreLawful }
+{}
 
 /// A table that gains atoms keeps the numbers that it has given.
 pub fn numbers_stay()

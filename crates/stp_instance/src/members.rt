@@ -2,7 +2,7 @@
 
 ghost use Rattle.std.specs.Prelude.{◌≡◌, ◌<◌, ◌^◌, length, map, IfOk};
 ghost use Rattle.stp_schema.specs.Rows.{parents_of, thing_of};
-ghost use Rattle.stp_binding.specs.Bindings.{numbers_of};
+ghost use Rattle.stp_instance.specs.Bindings.{numbers_of};
 ghost use Rattle.stp_instance.specs.Expanded.{objects_below};
 ghost use Rattle.stp_instance.specs.Typing.{objects_in};
 
@@ -24,7 +24,7 @@ pub struct Members<'a> {
 impl<'a> Model for Members<'a> {
     ghost use Rattle.std.specs.Prelude.{◌≡◌, ℕ, ◌<◌, ◌^◌, length, map, IfSome, None, slice_index_or};
     ghost use Rattle.stp_schema.specs.Rows.{parents_of, thing_of};
-    ghost use Rattle.stp_binding.specs.Bindings.{numbers_of};
+    ghost use Rattle.stp_instance.specs.Bindings.{numbers_of};
     ghost use Rattle.stp_instance.specs.Expanded.{objects_below};
     ghost use Rattle.stp_instance.specs.Typing.{Typing};
 

@@ -3,19 +3,19 @@
 ghost use Rattle.std.specs.Prelude.{◌≡◌, ◌++◌, IfOk, OnOk};
 ghost use Rattle.stp_cond.specs.Atoms.{set_of};
 ghost use Rattle.stp_cond.specs.Views.{atoms_of};
-ghost use Rattle.stp_instance.specs.Numbered.{fluent_atoms, is_fluent as is_fluent_lem, IsGrown, numbers_in, with_atoms};
+ghost use Rattle.stp_instance.specs.Numbered.{fluent_atoms, is_fluent, IsGrown, numbers_in, with_atoms};
 ghost use Rattle.stp_instance.specs.Views.{claim};
 
 use crate::ground::Ground;
 use bumpalo::Bump;
 use std::alloc::Global;
-use stp_atoms::AtomTable;
 use stp_base::{AtomId, Memory};
 use stp_cond::ascending;
+use stp_tables::AtomTable;
 
 /// Whether a predicate is fluent. One that has no mark is not.
-pub(crate) fn is_fluent(fluent: &[bool], predicate: u32) -> bool
-    ensures { result ≡ is_fluent_lem fluent.now predicate }
+pub fn is_fluent(fluent: &[bool], predicate: u32) -> bool
+    ensures { result ≡ is_fluent fluent.now predicate }
 {
     match fluent.get(predicate as usize) {
         Some(mark) => *mark,
@@ -30,7 +30,7 @@ pub fn number_atoms(
     ground: &Ground<'_>,
 ) -> Result<(), Memory>
     ensures atoms { OnOk result
-        (table.new ≡ with_atoms table.old (fluent_atoms (is_fluent_lem fluent.now) (claim ground.now))) }
+        (table.new ≡ with_atoms table.old (fluent_atoms (is_fluent fluent.now) (claim ground.now))) }
     ensures grown { IsGrown table.old table.new }
 {
     match ground {
@@ -59,7 +59,7 @@ fn gather(
 ) -> Result<(), Memory>
     ensures { OnOk result
         (atoms_of reads.new.items
-        ≡ atoms_of reads.old.items ++ numbers_in table.now (fluent_atoms (is_fluent_lem fluent.now) (claim ground.now))) }
+        ≡ atoms_of reads.old.items ++ numbers_in table.now (fluent_atoms (is_fluent fluent.now) (claim ground.now))) }
 {
     match ground {
         Ground::Fact(predicate, args) => {
@@ -89,7 +89,7 @@ pub fn reads_of<'a>(
     ground: &Ground<'_>,
 ) -> Result<&'a [AtomId], Memory>
     ensures { IfOk result
-        (λ r. atoms_of r.now ≡ set_of (numbers_in table.now (fluent_atoms (is_fluent_lem fluent.now) (claim ground.now)))) }
+        (λ r. atoms_of r.now ≡ set_of (numbers_in table.now (fluent_atoms (is_fluent fluent.now) (claim ground.now)))) }
 {
     let mut reads = Vec::new(alloc);
     gather(table, fluent, ground, &mut reads)?;

@@ -1,7 +1,7 @@
 //! The bindings of the variables of a quantifier, one after the other.
 
 ghost use Rattle.std.specs.Prelude.{◌≡◌, IfOk};
-ghost use Rattle.stp_binding.specs.Bindings.{numbers_of};
+ghost use Rattle.stp_instance.specs.Bindings.{numbers_of};
 ghost use Rattle.stp_instance.specs.Expanded.{bindings_of};
 ghost use Rattle.stp_instance.specs.Typing.{objects_in};
 ghost use Rattle.stp_instance.specs.Turning.{Takes};

@@ -2,7 +2,7 @@
 
 ghost use Rattle.std.specs.Prelude.{◌≡◌, true, ◌∷◌, [], ◌++◌, map, if◌then◌else◌, OnOk};
 ghost use Rattle.std.specs.List.{list_all};
-ghost use Rattle.stp_binding.specs.Bindings.{numbers_of};
+ghost use Rattle.stp_instance.specs.Bindings.{numbers_of};
 ghost use Rattle.stp_instance.specs.Turning.{has_choice, left, shown};
 
 use stp_base::{Memory, ObjectId};

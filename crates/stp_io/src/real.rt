@@ -63,6 +63,17 @@ fn read_file<R: Files>(rt: &R, name: &str, offset: u64, buf: &mut [u8]) -> io::R
     ensures { IfOk result (λ n. n ≤ length buf.new) }
 {
     let mut file = File::open(rt, name)?;
+    read_from(&mut file, offset, buf)
+}
+
+/// Reads some of a file's bytes from an offset.
+pub(crate) fn read_from<F: Read + Seek>(
+    file: &mut F,
+    offset: u64,
+    buf: &mut [u8],
+) -> io::Result<usize>
+    ensures { IfOk result (λ n. n ≤ length buf.new) }
+{
     file.seek(SeekFrom::Start(offset))?;
     file.read(buf)
 }

@@ -4,10 +4,14 @@ ghost use Rattle.std.specs.Prelude.{◌≡◌, ◌<◌, ◌≤◌, ℕ, false, l
 ghost use Rattle.stp_io.specs.Store.{HasRisen};
 
 use super::*;
+use crate::real::read_from;
 use std::alloc::Global;
-use std::fs;
+use std::cell::RefCell;
+use std::fmt::Display;
+use std::io::{Cursor, Read, Seek, SeekFrom};
 use std::rt::Files;
 use std::test::Fail;
+use std::{fs, io};
 
 /// A store that reads three bytes in a call at most, and tells nothing.
 #[derive(Drop)]
@@ -103,6 +107,113 @@ fn writes_until_there_is_no_room(rt: HostRuntime) -> Result<(), Fail> {
     Ok(())
 }
 
+/// A printer over a sink in memory, which takes and fails as that sink does.
+#[derive(Drop)]
+struct Printer {
+    sink: RefCell<MemorySink>,
+}
+
+/// The error of a call that failed.
+fn broken() -> io::Error {
+    io::Error::from(io::ErrorKind::BrokenPipe)
+}
+
+impl Print for Printer {
+    fn print<D: Display + Drop>(&self, _value: D) -> io::Result<()> {
+        Err(broken())
+    }
+
+    fn println<D: Display + Drop>(&self, _value: D) -> io::Result<()> {
+        Err(broken())
+    }
+
+    fn write_all(&self, _bytes: &[u8]) -> io::Result<()> {
+        Err(broken())
+    }
+
+    fn write_some(&self, bytes: &[u8]) -> io::Result<usize> {
+        if bytes.is_empty() {
+            return Ok(0);
+        }
+        let Ok(mut sink) = self.sink.try_borrow_mut() else {
+            return Err(broken());
+        };
+        match sink.write(bytes) {
+            Ok(count) => Ok(count),
+            Err(Failed) => Err(broken()),
+        }
+    }
+}
+
+#[test]
+fn prints_by_short_writes(rt: HostRuntime) -> Result<(), Fail> {
+    let mut taken = MemorySink::new(rt.alloc(), 100, 3)?;
+    taken.fail_call(4)?;
+    let printer = Printer {
+        sink: RefCell::new(taken),
+    };
+    let mut sink = OutSink::new(&printer);
+    let failed = write_all(&mut sink, b"abcdefghijkl");
+    let whole = write_all(&mut sink, b"mnopq");
+    assert_eq!(rt; failed, Err(Failed), "the fourth call");
+    assert_eq!(rt; whole, Ok(()));
+    let taken = printer.sink.into_inner();
+    assert_eq!(rt; taken.bytes(), b"abcdefghimnopq".as_slice());
+    Ok(())
+}
+
+/// A file in memory that reads three bytes in a call at most, of which the third read fails.
+#[derive(Drop)]
+struct ShortFile {
+    inner: Cursor<&'static str>,
+    reads: u64,
+}
+
+impl Read for ShortFile {
+    fn read(&mut self, buf: &mut [u8]) -> io::Result<usize> {
+        self.reads = self.reads.saturating_add(1);
+        if self.reads == 3 {
+            return Err(broken());
+        }
+        let most = buf.len().min(3);
+        self.inner.read(&mut buf[..most])
+    }
+}
+
+impl Seek for ShortFile {
+    fn seek(&mut self, to: SeekFrom) -> io::Result<u64> {
+        self.inner.seek(to)
+    }
+}
+
+#[test]
+fn reads_from_an_offset(rt: HostRuntime) -> Result<(), Fail> {
+    let mut file = ShortFile {
+        inner: Cursor::new("abcdefgh"),
+        reads: 0,
+    };
+    let mut buf = [0u8; 5];
+    assert_eq!(rt; read_from(&mut file, 4, &mut buf)?, 3);
+    assert_eq!(rt; buf[..3], b"efg"[..]);
+    assert_eq!(rt; read_from(&mut file, 7, &mut buf)?, 1);
+    assert_eq!(rt; buf[..1], b"h"[..]);
+    assert!(rt;
+        read_from(&mut file, 0, &mut buf).is_err(),
+        "the third read"
+    );
+    assert_eq!(rt; read_from(&mut file, 8, &mut buf)?, 0);
+    Ok(())
+}
+
+/// So many bytes, each another than the one before it.
+fn counted(alloc: Global, count: u32) -> Result<Vec<u8>, Fail> {
+    let mut bytes = Vec::new(alloc);
+    for i in 0..count {
+        bytes.push((i % 251) as u8)?;
+    }
+    Ok(bytes)
+}
+
 fn copy_out<R: Files, P: Print>(
     alloc: Global,
     store: &mut FileStore<R>,
@@ -123,8 +234,16 @@ fn reads_real_files_and_prints(rt: HostRuntime) -> Result<(), Fail> {
     let mut store = FileStore::new(rt);
     let mut sink = OutSink::new(rt);
     copy_out(rt.alloc(), &mut store, &mut sink, name)?;
+    let mut buf = [0u8; 3];
+    assert_eq!(rt; store.read_at(name, 2, &mut buf)?, 3);
+    assert_eq!(rt; buf, *b"fil");
+    let long = counted(rt.alloc(), 40_000)?;
+    fs::write(&rt, name, long.as_slice())?;
     let text = load(rt.alloc(), &mut store, name)?;
-    assert_eq!(rt; text.as_slice(), b"a file\n".as_slice());
+    assert!(rt;
+        text.as_slice() == long.as_slice(),
+        "a file of several reads"
+    );
     fs::remove_file(&rt, name)?;
     let failed = load(rt.alloc(), &mut store, name).err();
     assert_eq!(rt; failed, Some(LoadFault::ReadFault));

@@ -1,126 +1,186 @@
--- One more step of a search, and its end.
-use Rattle.std.proofs.Common.{◌≡◌, ℕ, ◌+◌, ◌-◌, ◌<◌, ◌≤◌, Bool, true, false, cond, List, [], ◌∷◌, ◌++◌, take, drop, get_or, length, filter, All, refl, ap, sym, ◌∙◌, subst, arith, append_assoc, length-append, length-drop}
-use Rattle.std.proofs.lemmas.List.{map-append, append-nil, at_drop_more, take_all}
-use Rattle.std.proofs.lemmas.List.Elements.{All-nil, All-push, All-head, All-tail, filter-append}
-use Rattle.stp_happen.specs.declared.boxes.BoxStep.{BoxStep}
-use Rattle.stp_happen.specs.declared.boxes.BoxRun.{BoxRun}
-use Rattle.stp_happen.specs.SoundBox.{IsBoxStep}
-use Rattle.stp_happen.specs.Boxes.{PlainStep, step_of, steps_of, plain_box}
+-- One more owner of a search, and its end.
+use Rattle.std.proofs.Common.{◌≡◌, ℕ, ◌+◌, ◌<◌, ◌≤◌, Bool, true, false, cond, List, [], ◌∷◌, ◌++◌, ◌⊎◌, get_or, length, filter, map, All, Contains, inl, inr, refl, ap, sym, ◌∙◌, subst, arith, true≢false, append_assoc, length-append}
+use Rattle.std.proofs.Math.Seq.{get_or-append_seam}
+use Rattle.std.proofs.lemmas.List.{append-nil, get_or-map, length-map}
+use Rattle.std.proofs.lemmas.List.Elements.{Contains-append_right, All-nil, All-push, filter-append}
+use Rattle.stp_happen.specs.declared.owners.Owner.{Owner}
+use Rattle.stp_happen.specs.declared.owners.OwnedBox.{OwnedBox}
+use Rattle.stp_happen.specs.Boxes.{PlainOwner, PlainBox}
+use Rattle.stp_happen.specs.Bounds.{MayEndWithin, bounded_owner, bounded_box}
 use Rattle.stp_happen.specs.LeastFailure.{IsFailure, IsLeastFailure}
-use Rattle.stp_strength.proofs.Checked.{steps_in_range}
+use Rattle.stp_happen.specs.OwnedViews.{plain_owned}
+use Rattle.stp_happen.specs.OwnerViews.{plain_owner, plain_owners}
+use Rattle.stp_happen.specs.Owners.{AreNumbered, AreTimedApart}
+use Rattle.stp_happen.specs.Sound.{last_moment}
+use Rattle.stp_happen.specs.SoundOwned.{IsOwner}
+use Rattle.stp_happen.proofs.Bounding.{bounded_split}
+use Rattle.stp_happen.proofs.Members.{here, all_of, each_of, member_map}
+use Rattle.stp_window.proofs.Proper.{one_number}
+use Rattle.stp_window.proofs.WellMade.{boxes_are_well_made}
+use Rattle.stp_strength.proofs.Checked.{owners_in_range}
 use Rattle.stp_least.specs.declared.place.Place.{Place}
 use Rattle.stp_least.specs.declared.place.Failing.{Failing}
 use Rattle.stp_least.specs.declared.search.Search.{Search}
-use Rattle.stp_least.specs.Searching.{AreFixed, KeepsLeastFailure, AreStepsFor, box_of, uncertain_among}
-use Rattle.stp_least.specs.Places.{box_at, IsPlace, IsFailing, IsSearch}
-use Rattle.stp_least.proofs.Narrowing.{fixed_least}
+use Rattle.stp_least.specs.Searching.{AreFixed, KeepsLeastFailure, uncertain_among}
+use Rattle.stp_least.specs.Places.{box_at, Fits, IsPlace, IsFailing, IsSearch}
+use Rattle.stp_least.proofs.Narrowing.{ending, fixed_least}
 
 -- ---- how many are uncertain
 
-counted : (before : List PlainStep) (s : PlainStep) (u : Bool) → s.uncertain ≡ u → uncertain_among (before ++ s ∷ []) ≡ uncertain_among before + cond u 1 0
-counted before s u e =
-    ap length (filter-append (λ (x : PlainStep). x.uncertain) before (s ∷ []))
-    ∙ (length-append (filter (λ (x : PlainStep). x.uncertain) before) (filter (λ (x : PlainStep). x.uncertain) (s ∷ [])) ∙ ap (λ n. uncertain_among before + n) (alone s u e))
+counted : (before : List PlainOwner) (o : PlainOwner) (u : Bool) → o.uncertain ≡ u → uncertain_among (before ++ o ∷ []) ≡ uncertain_among before + cond u 1 0
+counted before o u e =
+    ap length (filter-append (λ (x : PlainOwner). x.uncertain) before (o ∷ []))
+    ∙ (length-append (filter (λ (x : PlainOwner). x.uncertain) before) (filter (λ (x : PlainOwner). x.uncertain) (o ∷ [])) ∙ ap (λ n. uncertain_among before + n) (alone o u e))
   where
-    alone : (s : PlainStep) (u : Bool) → s.uncertain ≡ u → uncertain_among (s ∷ []) ≡ cond u 1 0
-    alone s true e = rw e refl
-    alone s false e = rw e refl
+    alone : (o : PlainOwner) (u : Bool) → o.uncertain ≡ u → uncertain_among (o ∷ []) ≡ cond u 1 0
+    alone o true e = rw e refl
+    alone o false e = rw e refl
 
-pub few_uncertain : (steps : List PlainStep) → uncertain_among steps ≤ length steps
+few_uncertain : (owners : List PlainOwner) → uncertain_among owners ≤ length owners
 few_uncertain [] = omega arith
-few_uncertain (s ∷ ss) = by_kind s ss s.uncertain refl (few_uncertain ss)
+few_uncertain (o ∷ os) = by_kind o os o.uncertain refl (few_uncertain os)
   where
-    by_kind : (s : PlainStep) (ss : List PlainStep) (u : Bool) → s.uncertain ≡ u → uncertain_among ss ≤ length ss → uncertain_among (s ∷ ss) ≤ length (s ∷ ss)
-    by_kind s ss true e l = rw e (omega arith)
-    by_kind s ss false e l = rw e (omega arith)
+    by_kind : (o : PlainOwner) (os : List PlainOwner) (u : Bool) → o.uncertain ≡ u → uncertain_among os ≤ length os → uncertain_among (o ∷ os) ≤ length (o ∷ os)
+    by_kind o os true e l = rw e (omega arith)
+    by_kind o os false e l = rw e (omega arith)
 
--- ---- one more step
+pub position_small : (index : ℕ) (search : Search) → IsSearch index search → search.position ≤ index
+position_small index search h = let p : search.position ≡ uncertain_among h.before = h.position in let n : length h.before ≡ index = h.long in omega (arith, few_uncertain h.before)
 
-step_there : (P : BoxStep → Type 0) (before : List BoxStep) (s : BoxStep) (rest : List BoxStep) → All P (before ++ s ∷ rest) → P s
-step_there P [] s rest h = All-head P s rest h
-step_there P (b ∷ bs) s rest h = step_there P bs s rest (All-tail P b (bs ++ s ∷ rest) h)
+-- ---- the owner at hand
 
-pub certain_fixed : (boxed : BoxRun) (before : List BoxStep) (s : BoxStep) (rest : List BoxStep) → AreStepsFor boxed (before ++ s ∷ rest) → s.uncertain ≡ false → s.low ≡ s.high
-certain_fixed boxed before s rest a u =
-    let b = step_there (IsBoxStep boxed.grid (length boxed.initial)) before s rest (a.in_range boxed.grid (length boxed.initial) (steps_in_range boxed)) in
-    b.certain u
+-- the owners of a search, with the one at hand in the middle
+pub record HasNext (search : Search) (o : Owner) : Type 0 where
+  pub before : List PlainOwner
+  pub rest : List PlainOwner
+  pub owners : plain_owners search.boxed.owners ≡ before ++ plain_owner o ∷ rest
+  pub fixed : AreFixed before
+  pub position : search.position ≡ uncertain_among before
 
-push_fixed : (before : List BoxStep) (s : BoxStep) → AreFixed (steps_of before) → s.low ≡ s.high → AreFixed (steps_of (before ++ s ∷ []))
-push_fixed before s f e = subst AreFixed (sym (map-append step_of before (s ∷ []))) (All-push (λ (x : PlainStep). x.low ≡ x.high) (steps_of before) (step_of s) f e)
+next_of : (index : ℕ) (search : Search) (read : List Owner) (o : Owner) → IsSearch index search → read ≡ search.boxed.owners → index < length search.boxed.owners → o ≡ get_or read index o → (n : HasNext search o) × (length n.before ≡ index)
+next_of index search read o h same l e = by_rest index search read o h same l e h.rest h.owners
+  where
+    by_rest : (index : ℕ) (search : Search) (read : List Owner) (o : Owner) (h : IsSearch index search) → read ≡ search.boxed.owners → index < length search.boxed.owners → o ≡ get_or read index o →
+        (rest : List PlainOwner) → plain_owners search.boxed.owners ≡ h.before ++ rest → (n : HasNext search o) × (length n.before ≡ index)
+    by_rest index search read o h same l e [] all =
+        let long : length (plain_owners search.boxed.owners) ≡ length (h.before ++ []) = ap length all in
+        let n : length h.before ≡ index = h.long in
+        let none : List PlainOwner = [] in
+        absurd (omega (arith, length-map search.boxed.owners plain_owner, length-append h.before none))
+    by_rest index search read o h same l e (x ∷ rest) all =
+        let there : get_or (plain_owners search.boxed.owners) index (plain_owner o) ≡ plain_owner (get_or search.boxed.owners index o) = get_or-map plain_owner search.boxed.owners index o (plain_owner o) l in
+        let seam : get_or (plain_owners search.boxed.owners) index (plain_owner o) ≡ x =
+        ap (λ os. get_or os index (plain_owner o)) all ∙ (ap (λ n. get_or (h.before ++ x ∷ rest) n (plain_owner o)) (sym h.long) ∙ get_or-append_seam h.before x rest (plain_owner o)) in
+        let is : x ≡ plain_owner o = sym seam ∙ (there ∙ ap plain_owner (ap (λ os. get_or os index o) (sym same) ∙ sym e)) in (
+          record { before = h.before; rest = rest; owners = all ∙ ap (λ y. h.before ++ y ∷ rest) is; fixed = h.fixed; position = h.position },
+          h.long,
+        )
 
--- a fixed step before the rest becomes the last of those that are fixed
-pub pushed : (boxed : BoxRun) (search : Search) (s : BoxStep) (rest new : List BoxStep) (u : Bool) (position : ℕ) → IsSearch boxed (s ∷ rest) search → s.uncertain ≡ u → s.low ≡ s.high →
-    position ≡ search.position + cond u 1 0 → new ≡ search.fixed ++ s ∷ [] → IsSearch boxed rest (record { fixed = new; position = position; durations = search.durations })
-pushed boxed search s rest new u position h k l p e =
-    let all : search.fixed ++ s ∷ rest ≡ new ++ rest = sym (append_assoc search.fixed (s ∷ []) rest) ∙ ap (λ ss. ss ++ rest) (sym e) in
-    record {
-      fixed = subst (λ ss. AreFixed (steps_of ss)) (sym e) (push_fixed search.fixed s h.fixed l);
-      position = p ∙ (ap (λ n. n + cond u 1 0) h.position ∙ (sym (counted (steps_of search.fixed) (step_of s) u k) ∙ ap uncertain_among (sym (map-append step_of search.fixed (s ∷ []))))) ∙ ap (λ ss. uncertain_among (steps_of ss)) (sym e);
-      steps = subst (AreStepsFor boxed) all h.steps;
-      failure = subst (λ ss. IsFailure (box_of boxed ss) search.durations) all h.failure;
-      least = subst (λ ss. KeepsLeastFailure (plain_box boxed) (box_of boxed ss)) all h.least;
-    }
+-- the search after an owner that has one end, in a box in which it may have got that end
+pushed : (index : ℕ) (boxed : OwnedBox) (position : ℕ) (ds : List ℕ) (before : List PlainOwner) (o : PlainOwner) (rest : List PlainOwner) (u : Bool) → plain_owners boxed.owners ≡ before ++ o ∷ rest → length before ≡ index → AreFixed before →
+    o.low ≡ o.high → o.uncertain ≡ u → position ≡ uncertain_among before + cond u 1 0 → IsFailure (plain_owned boxed) ds → let search : Search = record { boxed = boxed; position = position; durations = ds } in IsSearch (index + 1) search
+pushed index boxed position ds before o rest u all long fixed one kind p f = record {
+  before = before ++ o ∷ [];
+  rest = rest;
+  owners = all ∙ sym (append_assoc before (o ∷ []) rest);
+  long = length-append before (o ∷ []) ∙ ap (λ n. n + 1) long;
+  fixed = All-push (λ (x : PlainOwner). x.low ≡ x.high) before o fixed one;
+  position = p ∙ sym (counted before o u kind);
+  failure = f;
+}
 
--- ---- a place of a search
+-- ---- an owner that is certain
 
-pub place_of : (boxed : BoxRun) (search : Search) (s : BoxStep) (rest : List BoxStep) (place : Place) → place.fixed.now ≡ search.fixed → place.position ≡ search.position → IsSearch boxed (s ∷ rest) search → IsPlace place
-place_of boxed search s rest place e p h = record {
-  fixed = subst (λ ss. AreFixed (steps_of ss)) (sym e) h.fixed;
-  position = p ∙ (h.position ∙ ap (λ ss. uncertain_among (steps_of ss)) (sym e));
+certain_fixed : (search : Search) (o : Owner) → Contains search.boxed.owners o → o.uncertain ≡ false → o.low ≡ o.high
+certain_fixed search o i u = let b = each_of (IsOwner search.boxed.grid (length search.boxed.initial)) search.boxed.owners (owners_in_range search.boxed) o i in b.certain u
+
+-- ---- an owner that is uncertain
+
+-- each owner with the number of the one at a place is that one
+pub may_end : (place : Place) → IsPlace place → (from to : ℕ) → Fits place from to → All (λ o. o.number ≡ place.owner.number → MayEndWithin place.boxed.now.grid from to o) place.boxed.now.owners
+may_end place p from to fits = all_of (λ o. o.number ≡ place.owner.number → MayEndWithin place.boxed.now.grid from to o) place.boxed.now.owners (λ o i e.
+    let boxed = place.boxed.now in
+    let b = each_of (IsOwner boxed.grid (length boxed.initial)) boxed.owners (owners_in_range boxed) o i in
+    by_kind place p from to fits o b (one_number (plain_owners boxed.owners) (boxes_are_well_made boxed).numbered (plain_owner o) (plain_owner place.owner) (member_map plain_owner boxed.owners o i) (subst (λ os. Contains os (plain_owner place.owner)) (sym p.owners) (Contains-append_right p.before (plain_owner place.owner ∷ p.rest) (plain_owner place.owner) (here (plain_owner place.owner) p.rest))) e))
+  where
+    by_kind : (place : Place) → IsPlace place → (from to : ℕ) → Fits place from to → (o : Owner) → IsOwner place.boxed.now.grid (length place.boxed.now.initial) o → (plain_owner o ≡ plain_owner place.owner) ⊎ AreTimedApart (plain_owner o) (plain_owner place.owner) →
+        MayEndWithin place.boxed.now.grid from to o
+    by_kind place p from to fits o b (inr apart) = absurd (true≢false (sym p.uncertain ∙ apart.other.certain))
+    by_kind place p from to fits o b (inl same) =
+        let low : o.low ≡ place.owner.low = ap (λ (x : PlainOwner). x.low) same in
+        let high : o.high ≡ place.owner.high = ap (λ (x : PlainOwner). x.high) same in
+        let start : o.start ≤ o.low = b.up in
+        let last : o.high ≤ last_moment place.boxed.now.grid = b.high in
+        let from_low : place.owner.low ≤ from = fits.low in
+        let to_high : to ≤ place.owner.high = fits.high in
+        record {
+          uncertain = ap (λ (x : PlainOwner). x.uncertain) same ∙ p.uncertain;
+          up = omega arith;
+          ordered = fits.up;
+          within = omega arith;
+          lasting = λ f l. let before : o.start < o.low = b.lasting f l in omega arith;
+        }
+
+place_is : (search : Search) (o : Owner) (place : Place) → HasNext search o → place.boxed.now ≡ search.boxed → place.owner ≡ o → place.position ≡ search.position → o.uncertain ≡ true → IsPlace place
+place_is search o place n same is p u = record {
+  before = n.before;
+  rest = n.rest;
+  owners = ap (λ (b : OwnedBox). plain_owners b.owners) same ∙ (n.owners ∙ ap (λ (x : Owner). n.before ++ plain_owner x ∷ n.rest) (sym is));
+  fixed = n.fixed;
+  position = p ∙ n.position;
+  uncertain = ap (λ (x : Owner). x.uncertain) is ∙ u;
 }
 
 -- ---- the end of the search
 
-pub search_ends : (boxed : BoxRun) (search : Search) → IsSearch boxed [] search → IsLeastFailure (plain_box boxed) search.durations
-search_ends boxed search h =
-    let all : search.fixed ++ [] ≡ search.fixed = append-nil search.fixed in
-    let failure : IsFailure (box_of boxed search.fixed) search.durations = subst (λ ss. IsFailure (box_of boxed ss) search.durations) all h.failure in
-    let keeps : KeepsLeastFailure (plain_box boxed) (box_of boxed search.fixed) = subst (λ ss. KeepsLeastFailure (plain_box boxed) (box_of boxed ss)) all h.least in
-    keeps search.durations (fixed_least (box_of boxed search.fixed) h.fixed search.durations failure)
+pub search_ends : (search : Search) (index : ℕ) → IsSearch index search → length search.boxed.owners ≤ index → IsLeastFailure (plain_owned search.boxed) search.durations
+search_ends search index h l = fixed_least (plain_owned search.boxed) (all_fixed search index h l h.rest h.owners) search.durations h.failure
+  where
+    all_fixed : (search : Search) (index : ℕ) (h : IsSearch index search) → length search.boxed.owners ≤ index → (rest : List PlainOwner) → plain_owners search.boxed.owners ≡ h.before ++ rest → AreFixed (plain_owners search.boxed.owners)
+    all_fixed search index h l [] all = subst AreFixed (sym (all ∙ append-nil h.before)) h.fixed
+    all_fixed search index h l (x ∷ rest) all =
+        let long : length (plain_owners search.boxed.owners) ≡ length (h.before ++ x ∷ rest) = ap length all in
+        let n : length h.before ≡ index = h.long in
+        absurd (omega (arith, length-map search.boxed.owners plain_owner, length-append h.before (x ∷ rest)))
 
-pub search_begins : (boxed : BoxRun) (steps : List BoxStep) (ds : List ℕ) → steps ≡ boxed.steps → IsFailure (plain_box boxed) ds → IsSearch boxed steps (record { fixed = []; position = 0; durations = ds })
-search_begins boxed steps ds e f = record {
-  fixed = All-nil (λ (x : PlainStep). x.low ≡ x.high);
-  position = refl;
-  steps = record { long = ap length e; in_range = λ grid n h. subst (All (IsBoxStep grid n)) (sym e) h };
-  failure = subst (λ ss. IsFailure (box_of boxed ss) ds) (sym e) f;
-  least = subst (λ ss. KeepsLeastFailure (plain_box boxed) (box_of boxed ss)) (sym e) (λ d l. l);
+pub search_begins : (search : Search) → search.position ≡ 0 → IsFailure (plain_owned search.boxed) search.durations → IsSearch 0 search
+search_begins search p f = record {
+  before = [];
+  rest = plain_owners search.boxed.owners;
+  owners = refl;
+  long = refl;
+  fixed = All-nil (λ (x : PlainOwner). x.low ≡ x.high);
+  position = p;
+  failure = f;
 }
 
--- ---- an uncertain step
+-- ---- the search after the owner at hand
 
--- the step is fixed to its end at a failure
-pub found_pushed : (place : Place) (search : Search) (s : BoxStep) (found : Failing) (new : List BoxStep) → place.fixed.now ≡ search.fixed → IsSearch place.boxed.now (s ∷ place.rest.now) search →
-    IsFailing place found → KeepsLeastFailure (box_at place s) (box_at place found.step) → found.step.low ≡ found.step.high → new ≡ search.fixed ++ found.step ∷ [] →
-    IsSearch place.boxed.now place.rest.now (record { fixed = new; position = search.position + 1; durations = found.durations })
-found_pushed place search s found new e h f keeps l p =
-    let boxed = place.boxed.now in
-    let rest = place.rest.now in
-    let t = found.step in
-    let least : KeepsLeastFailure (box_of boxed (search.fixed ++ s ∷ rest)) (box_of boxed (search.fixed ++ t ∷ rest)) =
-    subst (λ ss. KeepsLeastFailure (box_of boxed (ss ++ s ∷ rest)) (box_of boxed (ss ++ t ∷ rest))) e keeps in
-    let fixed : IsSearch boxed (t ∷ rest) (record { fixed = search.fixed; position = search.position; durations = found.durations }) = record {
-      fixed = h.fixed;
-      position = h.position;
-      steps = subst (λ ss. AreStepsFor boxed (ss ++ t ∷ rest)) e f.steps;
-      failure = subst (λ ss. IsFailure (box_of boxed (ss ++ t ∷ rest)) found.durations) e f.failure;
-      least = λ ds m. h.least ds (least ds m);
-    } in
-    pushed boxed (record { fixed = search.fixed; position = search.position; durations = found.durations }) t rest new true (search.position + 1) fixed f.uncertain l refl p
+pub certain_next : (index : ℕ) (search : Search) (read : List Owner) (o : Owner) → IsSearch index search → read ≡ search.boxed.owners → index < length search.boxed.owners → o ≡ get_or read index o → o.uncertain ≡ false →
+    let next : Search = record { boxed = search.boxed; position = search.position; durations = search.durations } in IsSearch (index + 1) next
+certain_next index search read o h same l e u =
+    let n = next_of index search read o h same l e in
+    let p : search.position ≡ uncertain_among n.0.before = n.0.position in
+    let member : Contains search.boxed.owners o = (index, l, ap (λ os. get_or os index o) (sym same) ∙ sym e) in
+    pushed index search.boxed search.position search.durations n.0.before (plain_owner o) n.0.rest false n.0.owners n.1 n.0.fixed (certain_fixed search o member u) u (omega arith) h.failure
 
--- a certain step is fixed as it is
-pub certain_pushed : (boxed : BoxRun) (search : Search) (s : BoxStep) (rest new : List BoxStep) → IsSearch boxed (s ∷ rest) search → s.uncertain ≡ false → new ≡ search.fixed ++ s ∷ [] →
-    IsSearch boxed rest (record { fixed = new; position = search.position; durations = search.durations })
-certain_pushed boxed search s rest new h u p = pushed boxed search s rest new false search.position h u (certain_fixed boxed search.fixed s rest h.steps u) (omega arith) p
+pub place_next : (index : ℕ) (search : Search) (read : List Owner) (o : Owner) → IsSearch index search → read ≡ search.boxed.owners → index < length search.boxed.owners → o ≡ get_or read index o → o.uncertain ≡ true →
+    (place : Place) → place.boxed.now ≡ search.boxed → place.owner ≡ o → place.position ≡ search.position → IsPlace place
+place_next index search read o h same l e u place b is p = place_is search o place (next_of index search read o h same l e).0 b is p u
 
--- ---- the loop over the steps
+-- the owner gets the one end that it has at the least failure
+pub found_next : (index : ℕ) (search : Search) (read : List Owner) (o : Owner) → IsSearch index search → read ≡ search.boxed.owners → index < length search.boxed.owners → o ≡ get_or read index o → o.uncertain ≡ true →
+    (found : Failing) (fixed : OwnedBox) → IsFailure (bounded_box o.number found.low found.high (plain_owned search.boxed)) found.durations → found.low ≡ found.high → plain_owned fixed ≡ bounded_box o.number found.low found.high (plain_owned search.boxed) →
+    let next : Search = record { boxed = fixed; position = search.position + 1; durations = found.durations } in IsSearch (index + 1) next
+found_next index search read o h same l e u found fixed failure one is =
+    let n = next_of index search read o h same l e in
+    let p : search.position ≡ uncertain_among n.0.before = n.0.position in
+    let numbered : AreNumbered (n.0.before ++ plain_owner o ∷ n.0.rest) = subst AreNumbered n.0.owners (boxes_are_well_made search.boxed).numbered in
+    let owners : plain_owners fixed.owners ≡ n.0.before ++ ending found.low found.high (plain_owner o) ∷ n.0.rest =
+    ap (λ (b : PlainBox). b.owners) is ∙ (ap (map (bounded_owner o.number found.low found.high)) n.0.owners ∙ bounded_split found.low found.high n.0.before (plain_owner o) n.0.rest u numbered) in
+    pushed index fixed (search.position + 1) found.durations n.0.before (ending found.low found.high (plain_owner o)) n.0.rest true owners n.1 n.0.fixed one u (omega arith) (subst (λ b. IsFailure b found.durations) (sym is) failure)
 
-pub rest_taken : (steps : List BoxStep) (i : ℕ) → take (length steps - i) (drop i steps) ≡ drop i steps
-rest_taken steps i = take_all (length steps - i) (drop i steps) (omega (arith, length-drop i steps))
-
-pub step_next : (boxed : BoxRun) (search : Search) (steps : List BoxStep) (i : ℕ) (s : BoxStep) → i < length steps → s ≡ get_or steps i s → IsSearch boxed (drop i steps) search →
-    IsSearch boxed (s ∷ take (length steps - (i + 1)) (drop (i + 1) steps)) search
-step_next boxed search steps i s l e h =
-    let split : drop i steps ≡ s ∷ drop (i + 1) steps = at_drop_more (λ (ss : List BoxStep). ss) steps i s l ∙ ap (λ t. t ∷ drop (i + 1) steps) (sym e) in
-    let whole : take (length steps - (i + 1)) (drop (i + 1) steps) ≡ drop (i + 1) steps = rest_taken steps (i + 1) in
-    subst (λ ss. IsSearch boxed ss search) (split ∙ ap (λ ss. s ∷ ss) (sym whole)) h
+pub same_long : (boxed fixed : OwnedBox) (number low high : ℕ) → plain_owned fixed ≡ bounded_box number low high (plain_owned boxed) → length fixed.owners ≡ length boxed.owners
+same_long boxed fixed number low high is =
+    sym (length-map fixed.owners plain_owner)
+    ∙ (ap (λ (b : PlainBox). length b.owners) is ∙ (length-map (plain_owners boxed.owners) (bounded_owner number low high) ∙ length-map boxed.owners plain_owner))

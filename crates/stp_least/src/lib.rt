@@ -5,7 +5,4 @@ pub mod least;
 mod place;
 mod search;
 
-pub use least::least_failure;
-
-#[cfg(test)]
-mod tests;
+pub use least::{least_by_owners, least_failure};

@@ -5,7 +5,7 @@ use Rattle.std.proofs.lemmas.Bool.{eqb-true, ne_eqb, false≢true}
 use Rattle.std.proofs.lemmas.List.{take_rest, length-drop, get_or-drop, nil_from_length}
 use Rattle.std.proofs.lemmas.List.Sums.{prefix_len_stops}
 use Rattle.std.proofs.lemmas.List.Folds.{length-prefix_len}
-use Rattle.stp_plan.specs.Bytes.{is_white}
+use Rattle.stp_text.specs.Bytes.{is_white}
 use Rattle.stp_plan.specs.Parts.{is_mark, is_run_byte, mark_of, byte_of, Part, Colon, Open, Close, OpenBracket, CloseBracket, Run, ended, with_mark, cut, parts, after, first_run}
 
 abbrev is_break : ℕ → Bool

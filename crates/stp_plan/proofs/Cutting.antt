@@ -4,7 +4,7 @@ use Rattle.std.specs.List.{onto_first, position_or_len, prefix_len, suffix_len}
 use Rattle.std.proofs.lemmas.List.{length-take, length-take-le, length-drop, take-take, drop-drop, map_push, append-nil, nil_from_length}
 use Rattle.std.proofs.lemmas.List.Sums.{prefix_len-le-length}
 use Rattle.stp_plan.specs.declared.line.Line.{Line}
-use Rattle.stp_plan.specs.Bytes.{is_white}
+use Rattle.stp_text.specs.Bytes.{is_white}
 use Rattle.stp_plan.specs.Lines.{lines_of, before_comment, line_text, texts_of, place_of, places_of, text_at}
 
 -- ---- the first line

@@ -2,9 +2,10 @@
 use Rattle.std.proofs.Common.{◌≡◌, ℕ, Bool, cond, List, [], ◌∷◌, ◌++◌, Option, Some, None, refl, ap, ◌∙◌, sym}
 use Rattle.std.specs.List.{list_all}
 use Rattle.stp_plan.specs.declared.atoms.Named.{Named}
-use Rattle.stp_plan.specs.Bytes.{is_white}
+use Rattle.stp_text.specs.Bytes.{is_white}
 use Rattle.stp_plan.specs.Parts.{Part, parts}
-use Rattle.stp_plan.specs.Names.{◌>>=◌, only_atom}
+use Rattle.stp_base.specs.Options.{◌>>=◌}
+use Rattle.stp_plan.specs.Names.{only_atom}
 use Rattle.stp_plan.proofs.Cuts.{is_nil, nil_parts}
 
 -- a part that is there, and one that is not

@@ -4,9 +4,9 @@ use Rattle.std.specs.List.{list_all, list_any, position_or_len}
 use Rattle.std.proofs.lemmas.Bool.Decides.{nat_tests}
 use Rattle.std.proofs.lemmas.Bool.{lt-ltb}
 use Rattle.stp_frac.specs.Fractions.{Fraction}
-use Rattle.stp_plan.specs.Bytes.{is_white}
+use Rattle.stp_text.specs.Bytes.{is_white}
 use Rattle.stp_plan.specs.Parts.{Part, OpenBracket, CloseBracket, Run, parts, after, first_run}
-use Rattle.stp_plan.specs.Names.{◌>>=◌}
+use Rattle.stp_base.specs.Options.{◌>>=◌}
 use Rattle.stp_plan.specs.Numbers.{plain_number}
 use Rattle.stp_plan.specs.Steps.{PlainBracket, NoBracket, Exactly, Between, is_star, is_comma, pair_of, inside, bracket_of}
 use Rattle.stp_plan.proofs.Cuts.{is_nil, nil_parts}

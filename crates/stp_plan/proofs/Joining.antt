@@ -5,9 +5,11 @@ use Rattle.stp_frac.specs.Fractions.{Fraction}
 use Rattle.stp_frac.specs.Reading.{text_of}
 use Rattle.stp_frac.proofs.Divisors.{left_true, right_true}
 use Rattle.stp_plan.specs.declared.atoms.Named.{Named}
-use Rattle.stp_plan.specs.Bytes.{is_white}
+use Rattle.stp_text.specs.Bytes.{is_white}
 use Rattle.stp_plan.specs.Parts.{Part, Colon, Open, Close, OpenBracket, CloseBracket, Run, mark_of, is_run_byte, ended, cut, parts}
-use Rattle.stp_plan.specs.Names.{◌>>=◌, is_name, names_of, named_by, runs_of, until_close, atom_of}
+use Rattle.stp_base.specs.Options.{◌>>=◌}
+use Rattle.stp_text.specs.Names.{is_name}
+use Rattle.stp_plan.specs.Names.{names_of, named_by, runs_of, until_close, atom_of}
 use Rattle.stp_plan.specs.Numbers.{plain_number}
 use Rattle.stp_plan.specs.Steps.{PlainBracket, NoBracket, Exactly, AnyNumber, Between, PlainStep, time_of, pair_of, inside, bracket_of, step_of}
 use Rattle.stp_plan.specs.Printing.{args_text, bracket_text, step_text}
@@ -73,7 +75,7 @@ parts_args (arg ∷ args) rest h apart =
     ∙ parts_run arg (args_text args ++ rest) (name_some arg name) (name_is_run arg name) (args_apart args rest apart)
     ∙ ap (λ ps. Run arg ∷ ps) (parts_args args rest (right_true (is_name arg) (list_all is_name args) h) apart)
 
-runs_before : (words : List (List ℕ)) (rest : List Part) → runs_of (runs words ++ Close ∷ rest) ≡ (words, Close ∷ rest)
+pub runs_before : (words : List (List ℕ)) (rest : List Part) → runs_of (runs words ++ Close ∷ rest) ≡ (words, Close ∷ rest)
 runs_before [] rest = refl
 runs_before (word ∷ words) rest = ap (λ r. (word ∷ r.0, r.1)) (runs_before words rest)
 
@@ -153,13 +155,13 @@ parts_step s h =
     ∙ ap (λ ps. runs s.args ++ ps) (parts_mark 41 (bracket_text s.bracket) Close refl refl)))))
 
 -- what is left to read of a step
-abbrev with_bracket : Fraction → Named → Option PlainBracket → Option PlainStep
+abbrev pub with_bracket : Fraction → Named → Option PlainBracket → Option PlainStep
 with_bracket at named bracket = bracket >>= (λ b. Some (record { at = at; name = named.name; args = named.args; bracket = b }))
 
-abbrev with_atom : Fraction → Option (Named × List Part) → Option PlainStep
+abbrev pub with_atom : Fraction → Option (Named × List Part) → Option PlainStep
 with_atom at atom = atom >>= (λ a. with_bracket at a.0 (bracket_of a.1))
 
-abbrev with_time : Option (Fraction × List Part) → Option PlainStep
+abbrev pub with_time : Option (Fraction × List Part) → Option PlainStep
 with_time time = time >>= (λ t. with_atom t.0 (atom_of t.1))
 
 -- a printed step is read again

@@ -17,7 +17,9 @@ use Rattle.stp_plan.specs.declared.steps.Bracket.TheVariants.{Absent, Number, St
 use Rattle.stp_plan.specs.declared.steps.Step.{Step}
 use Rattle.stp_plan.specs.Parts.{Part, Colon, Open, Close, OpenBracket, CloseBracket, Run, parts}
 use Rattle.stp_plan.specs.Lines.{texts_of}
-use Rattle.stp_plan.specs.Names.{◌>>=◌, is_name, name_of, names_of, named_by, runs_of, until_close, atom_of}
+use Rattle.stp_base.specs.Options.{◌>>=◌}
+use Rattle.stp_text.specs.Names.{is_name}
+use Rattle.stp_plan.specs.Names.{name_of, names_of, named_by, runs_of, until_close, atom_of}
 use Rattle.stp_plan.specs.Numbers.{if_number, plain_number}
 use Rattle.stp_plan.specs.Steps.{PlainBracket, Exactly, AnyNumber, PlainStep, time_of, is_star, is_comma, pair_of, inside, bracket_of, step_of}
 use Rattle.stp_plan.specs.Plans.{LineKind, Empty, AStep, Bad, if_step, kind_of, is_bad, is_step, step_in, numbers_of, unless_bad, unless_many, plan_in, plan_of}

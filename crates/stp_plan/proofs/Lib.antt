@@ -1,6 +1,5 @@
 pub mod Cutting
 pub mod Cuts
-pub mod Words
 pub mod Following
 pub mod Forms
 pub mod LineByLine
@@ -8,3 +7,4 @@ pub mod Signs
 pub mod Joining
 pub mod Printed
 pub mod Lawful
+pub mod Spelling

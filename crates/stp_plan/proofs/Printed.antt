@@ -7,10 +7,10 @@ use Rattle.std.proofs.lemmas.List.Folds.{prefix_len-append}
 use Rattle.std.proofs.Math.Seq.{take-length}
 use Rattle.stp_frac.specs.Reading.{text_of}
 use Rattle.stp_frac.proofs.Divisors.{left_true, right_true}
-use Rattle.stp_plan.specs.Bytes.{is_white}
+use Rattle.stp_text.specs.Bytes.{is_white}
 use Rattle.stp_plan.specs.Parts.{is_mark, is_run_byte}
 use Rattle.stp_plan.specs.Lines.{lines_of, trim_start, trim_end, line_text, texts_of}
-use Rattle.stp_plan.specs.Names.{is_name}
+use Rattle.stp_text.specs.Names.{is_name}
 use Rattle.stp_plan.specs.Steps.{PlainBracket, NoBracket, Exactly, AnyNumber, Between, PlainStep, step_of}
 use Rattle.stp_plan.specs.Plans.{LineKind, AStep, if_step, kind_of, is_bad, is_step, step_in, numbers_of, unless_bad, unless_many, plan_in, plan_of}
 use Rattle.stp_plan.specs.Printing.{args_text, bracket_text, step_text, plan_text}

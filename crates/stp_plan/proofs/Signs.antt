@@ -12,7 +12,8 @@ use Rattle.stp_frac.specs.Laws.{CanBeSpelled}
 use Rattle.stp_frac.proofs.Divisors.{left_true, right_true, both_true}
 use Rattle.stp_frac.proofs.Reading.{own, printed_numbers_are_read_again}
 use Rattle.stp_plan.specs.Parts.{is_run_byte}
-use Rattle.stp_plan.specs.Names.{is_name_byte, is_name, name_of}
+use Rattle.stp_text.specs.Names.{goes_on_name, is_name}
+use Rattle.stp_plan.specs.Names.{name_of}
 use Rattle.stp_plan.specs.Numbers.{has_minus, if_number, plain_number}
 use Rattle.stp_plan.specs.Steps.{is_star, is_comma}
 use Rattle.stp_plan.specs.Laws.{IsSpellable}
@@ -25,13 +26,13 @@ is_kept b = not ((b == 10) || (b == 59))
 abbrev pub is_number_byte : ℕ → Bool
 is_number_byte b = is_ascii_digit b || (b == 47)
 
-name_runs : (b : ℕ) → is_name_byte b ≡ true → is_run_byte b ≡ true
+name_runs : (b : ℕ) → goes_on_name b ≡ true → is_run_byte b ≡ true
 name_runs b h = grind (arith, nat_tests)
 
-name_kept : (b : ℕ) → is_name_byte b ≡ true → is_kept b ≡ true
+name_kept : (b : ℕ) → goes_on_name b ≡ true → is_kept b ≡ true
 name_kept b h = grind (arith, nat_tests)
 
-name_folded : (b : ℕ) → is_name_byte b ≡ true → to_ascii_lowercase b ≡ b
+name_folded : (b : ℕ) → goes_on_name b ≡ true → to_ascii_lowercase b ≡ b
 name_folded b h = grind (arith, nat_tests)
 
 number_runs : (b : ℕ) → is_number_byte b ≡ true → is_run_byte b ≡ true
@@ -72,25 +73,25 @@ start_goes_on : (b : ℕ) (x y : Bool) → x ≡ true → (x || y) ≡ true
 start_goes_on b true y h = refl
 start_goes_on b false y h = cc
 
-name_bytes : (word : List ℕ) → is_name word ≡ true → list_all is_name_byte word ≡ true
+name_bytes : (word : List ℕ) → is_name word ≡ true → list_all goes_on_name word ≡ true
 name_bytes [] h = refl
-name_bytes (b ∷ bs) h = both_true (is_name_byte b) (list_all is_name_byte bs) (start_goes_on b _ (b == 45) (left_true _ (list_all is_name_byte bs) h)) (right_true _ (list_all is_name_byte bs) h)
+name_bytes (b ∷ bs) h = both_true (goes_on_name b) (list_all goes_on_name bs) (start_goes_on b _ (b == 45) (left_true _ (list_all goes_on_name bs) h)) (right_true _ (list_all goes_on_name bs) h)
 
 pub name_some : (word : List ℕ) → is_name word ≡ true → 0 < length word
 name_some [] h = cc
 name_some (b ∷ bs) h = omega arith
 
 pub name_is_run : (word : List ℕ) → is_name word ≡ true → list_all is_run_byte word ≡ true
-name_is_run word h = all_more is_name_byte is_run_byte name_runs word (name_bytes word h)
+name_is_run word h = all_more goes_on_name is_run_byte name_runs word (name_bytes word h)
 
 pub name_is_kept : (word : List ℕ) → is_name word ≡ true → list_all is_kept word ≡ true
-name_is_kept word h = all_more is_name_byte is_kept name_kept word (name_bytes word h)
+name_is_kept word h = all_more goes_on_name is_kept name_kept word (name_bytes word h)
 
-all_folded : (word : List ℕ) → list_all is_name_byte word ≡ true → map to_ascii_lowercase word ≡ word
+all_folded : (word : List ℕ) → list_all goes_on_name word ≡ true → map to_ascii_lowercase word ≡ word
 all_folded [] h = refl
 all_folded (b ∷ bs) h =
-    ap (λ c. c ∷ map to_ascii_lowercase bs) (name_folded b (left_true (is_name_byte b) (list_all is_name_byte bs) h))
-    ∙ ap (λ cs. b ∷ cs) (all_folded bs (right_true (is_name_byte b) (list_all is_name_byte bs) h))
+    ap (λ c. c ∷ map to_ascii_lowercase bs) (name_folded b (left_true (goes_on_name b) (list_all goes_on_name bs) h))
+    ∙ ap (λ cs. b ∷ cs) (all_folded bs (right_true (goes_on_name b) (list_all goes_on_name bs) h))
 
 pub name_again : (word : List ℕ) → is_name word ≡ true → name_of word ≡ Some word
 name_again word h =

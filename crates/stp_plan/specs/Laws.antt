@@ -1,12 +1,14 @@
 -- Laws of plan texts.
-use Rattle.std.specs.Prelude.{◌≡◌, ℕ, ◌≤◌, unsigned_abs, true, false, List, [], ◌∷◌, length, All, Ok}
+use Rattle.std.specs.Prelude.{◌≡◌, ℕ, ◌≤◌, unsigned_abs, true, false, List, [], ◌∷◌, length, All, Some, Ok}
 use Rattle.std.specs.List.{list_all}
 use Rattle.stp_frac.specs.Fractions.{Fraction, is_below_zero}
 use Rattle.stp_frac.specs.Laws.{CanBeSpelled}
-use Rattle.stp_plan.specs.Names.{is_name}
-use Rattle.stp_plan.specs.Steps.{PlainBracket, NoBracket, Exactly, AnyNumber, Between, PlainStep}
+use Rattle.stp_text.specs.Names.{is_name}
+use Rattle.stp_plan.specs.Steps.{PlainBracket, NoBracket, Exactly, AnyNumber, Between, PlainStep, step_of}
 use Rattle.stp_plan.specs.Plans.{plan_of}
 use Rattle.stp_plan.specs.Printing.{plan_text}
+use Rattle.stp_plan.specs.Parts.{Part, parts}
+use Rattle.stp_plan.specs.Spelling.{Spells, IsSpelling}
 
 -- the numbers of a bracket
 abbrev pub bracket_numbers : PlainBracket → List Fraction
@@ -52,3 +54,11 @@ ReadPlansAreLawful = (bytes : List ℕ) (plan : List PlainStep) → plan_of byte
 -- a printed plan of numbers that can be spelled is read again
 abbrev pub PrintedPlansAreReadAgain : Type 0
 PrintedPlansAreReadAgain = (plan : List PlainStep) → IsLawfulPlan IsSpellable plan → plan_of (plan_text plan) ≡ Ok plan
+
+-- a text that spells parts has these parts, whatever white bytes stand between them
+abbrev pub SpelledPartsAreRead : Type 0
+SpelledPartsAreRead = (ps : List Part) (text : List ℕ) → Spells ps text → parts text ≡ ps
+
+-- a text that spells a step is that step
+abbrev pub SpelledStepsAreRead : Type 0
+SpelledStepsAreRead = (s : PlainStep) (text : List ℕ) → IsSpelling s text → step_of text ≡ Some s

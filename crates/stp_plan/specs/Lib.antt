@@ -1,4 +1,3 @@
-pub mod Bytes
 pub mod Parts
 pub mod Lines
 pub mod Names
@@ -8,3 +7,4 @@ pub mod Plans
 pub mod Printing
 pub mod Views
 pub mod Laws
+pub mod Spelling

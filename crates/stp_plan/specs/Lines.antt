@@ -1,7 +1,7 @@
 -- The lines of a text, and what they say.
 use Rattle.std.specs.Prelude.{ℕ, ◌+◌, ◌-◌, ◌==◌, if◌then◌else◌, List, [], ◌∷◌, length, map, take, drop}
 use Rattle.std.specs.List.{onto_first, before_first, prefix_len, suffix_len}
-use Rattle.stp_plan.specs.Bytes.{is_white}
+use Rattle.stp_text.specs.Bytes.{is_white}
 use Rattle.stp_plan.specs.declared.line.Line.{Line}
 
 -- the lines of the bytes: each ends by a line feed, 10, or by the end; after a last line feed there is none

@@ -1,6 +1,6 @@
 -- The parts of a text.
 use Rattle.std.specs.Prelude.{ℕ, ◌==◌, Bool, ◌||◌, not, if◌then◌else◌, List, [], ◌∷◌, Option, Some, None, is_some}
-use Rattle.stp_plan.specs.Bytes.{is_white}
+use Rattle.stp_text.specs.Bytes.{is_white}
 
 -- What a text is made of: the bytes `:`, `(`, `)`, `[` and `]`, each alone, and the longest runs of other bytes that
 -- are not white.

@@ -3,7 +3,8 @@ use Rattle.std.specs.Prelude.{ℕ, ◌==◌, Bool, false, if◌then◌else◌, L
 use Rattle.std.specs.List.{list_any, before_first, after_first}
 use Rattle.stp_frac.specs.Fractions.{Fraction}
 use Rattle.stp_plan.specs.Parts.{Part, Colon, OpenBracket, CloseBracket, Run, parts}
-use Rattle.stp_plan.specs.Names.{◌>>=◌, atom_of}
+use Rattle.stp_base.specs.Options.{◌>>=◌}
+use Rattle.stp_plan.specs.Names.{atom_of}
 use Rattle.stp_plan.specs.Numbers.{plain_number}
 
 -- what stands in a step's bracket

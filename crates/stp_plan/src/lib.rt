@@ -7,7 +7,7 @@ pub mod fault;
 pub mod laws;
 pub mod line;
 mod names;
-mod numbers;
+pub mod numbers;
 mod parts;
 pub mod print;
 pub mod read;
@@ -16,9 +16,7 @@ pub mod steps;
 pub use atoms::Named;
 pub use fault::PlanFault;
 pub use line::{Line, lines};
+pub use numbers::plain_number;
 pub use print::print_plan;
 pub use read::{named, read_plan};
 pub use steps::{Bracket, Plan, Step};
-
-#[cfg(test)]
-mod tests;

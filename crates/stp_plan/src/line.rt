@@ -2,12 +2,12 @@
 
 ghost use Rattle.std.specs.Prelude.{◌≡◌, ◌≤◌, ◌+◌, ◌==◌, length, map, All, IfOk};
 ghost use Rattle.std.specs.List.{position_or_len, prefix_len};
-ghost use Rattle.stp_plan.specs.Bytes.{is_white};
+ghost use Rattle.stp_text.specs.Bytes.{is_white};
 ghost use Rattle.stp_plan.specs.Lines.{lines_of, before_comment, trim_end, line_text, texts_of, place_of, places_of, text_at};
 
-use crate::bytes::is_white;
 use std::alloc::Global;
 use stp_base::{List, Memory};
+use stp_text::is_white;
 
 /// Where a line stands: its bytes from one place up to another.
 #[derive(Clone, Copy, Debug, PartialEq, Eq)]

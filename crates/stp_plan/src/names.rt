@@ -2,36 +2,13 @@
 
 ghost use Rattle.std.specs.Prelude.{◌≡◌, IfOk, option_map};
 ghost use Rattle.stp_plan.specs.Parts.{parts};
-ghost use Rattle.stp_plan.specs.Names.{is_name_start, is_name_byte, is_name, name_of, names_from};
+ghost use Rattle.stp_plan.specs.Names.{name_of, names_from};
 ghost use Rattle.stp_plan.specs.Views.{view_front};
 
 use crate::parts::run;
 use std::alloc::Global;
 use stp_base::{List, Memory, Text};
-
-/// Whether a folded name may begin with a byte.
-fn is_name_start(byte: u8) -> bool
-    ensures { result ≡ is_name_start byte }
-{
-    byte.is_ascii_lowercase() || byte.is_ascii_digit() || byte == b'_'
-}
-
-/// Whether a folded name may go on with a byte.
-fn is_name_byte(byte: u8) -> bool
-    ensures { result ≡ is_name_byte byte }
-{
-    is_name_start(byte) || byte == b'-'
-}
-
-/// Whether a folded word is a name: a letter, a digit or `_`, and then letters, digits, `-` and `_`.
-fn is_name(word: &[u8]) -> bool
-    ensures { result ≡ is_name word.now }
-{
-    match word {
-        [first, rest @ ..] => is_name_start(*first) && rest.iter().all(|byte| is_name_byte(*byte)),
-        [] => false,
-    }
-}
+use stp_text::is_name;
 
 /// The folded name that a word spells, if it is a name.
 pub(crate) fn read_name(alloc: Global, word: &[u8]) -> Result<Option<Text>, Memory>

@@ -7,7 +7,7 @@ ghost use Rattle.stp_plan.specs.Numbers.{plain_number};
 use stp_frac::Frac;
 
 /// The number that a word without a minus spells.
-pub(crate) fn number(word: &[u8]) -> Option<Frac>
+pub fn plain_number(word: &[u8]) -> Option<Frac>
     ensures { option_map value_of result ≡ plain_number word.now }
 {
     match word {

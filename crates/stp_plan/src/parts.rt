@@ -2,12 +2,13 @@
 
 ghost use Rattle.std.specs.Prelude.{◌≡◌, ◌≤◌, ◌<◌, length, IsTrue, IfSome, option_map, slice_index, false};
 ghost use Rattle.std.specs.List.{list_all, prefix_len};
-ghost use Rattle.stp_plan.specs.Bytes.{is_white};
+ghost use Rattle.stp_text.specs.Bytes.{is_white};
 ghost use Rattle.stp_plan.specs.Parts.{is_mark, is_run_byte, parts, after, first_run};
 ghost use Rattle.stp_plan.specs.Views.{view_run};
 
-use crate::bytes::{is_run_byte, is_white};
+use crate::bytes::is_run_byte;
 use crate::line::white_length;
+use stp_text::is_white;
 
 /// How many bytes of a run a text begins with.
 fn run_length(text: &[u8]) -> usize

@@ -8,7 +8,7 @@ ghost use Rattle.stp_plan.specs.Views.{view_time, plain_bracket, plain_step};
 
 use crate::atoms::atom;
 use crate::line::place_of_byte;
-use crate::numbers::number;
+use crate::numbers::plain_number;
 use crate::parts::{is_blank, mark, run};
 use std::alloc::Global;
 use stp_base::{List, Memory, Text};
@@ -53,7 +53,7 @@ fn read_time(text: &[u8]) -> Option<(Frac, &[u8])>
 {
     let (word, rest) = run(text)?;
     let rest = mark(rest, b':')?;
-    Some((number(word)?, rest))
+    Some((plain_number(word)?, rest))
 }
 
 /// Whether a word is `*`.
@@ -72,10 +72,10 @@ fn read_inside(word: &[u8]) -> Option<Bracket>
     }
     let comma = place_of_byte(word, b',');
     if comma == word.len() {
-        return Some(Bracket::Number(number(word)?));
+        return Some(Bracket::Number(plain_number(word)?));
     }
-    let low = number(&word[..comma])?;
-    let high = number(&word[comma + 1..])?;
+    let low = plain_number(&word[..comma])?;
+    let high = plain_number(&word[comma + 1..])?;
     Some(Bracket::Pair(low, high))
 }
 

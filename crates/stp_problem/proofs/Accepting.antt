@@ -1,9 +1,9 @@
 -- What is read where nothing is refused.
 use Rattle.std.proofs.Common.{◌≡◌, Bool, true, false, if◌then◌else◌, List, [], ◌∷◌, Option, Some, None, Ok, refl}
-use Rattle.stp_offence.specs.declared.offence.Offence.{Offence}
-use Rattle.stp_offence.specs.First.{first_of, first_from, is_before}
-use Rattle.stp_offence.specs.Phases.{chosen, or_else}
-use Rattle.stp_domain.specs.Reading.{unless_refused}
+use Rattle.stp_refusal.specs.declared.offence.Offence.{Offence}
+use Rattle.stp_refusal.specs.First.{first_of, first_from, is_before}
+use Rattle.stp_refusal.specs.Phases.{chosen, or_else}
+use Rattle.stp_refusal.specs.Phases.{unless_refused}
 
 pub accepted_value : {A : Type 0} (value : A) (f : Option Offence) (v : A) → unless_refused value f ≡ Ok v → value ≡ v
 accepted_value value None v e = cc

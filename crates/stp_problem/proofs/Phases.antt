@@ -1,11 +1,11 @@
 -- Phases of reading a problem, one after the other.
 use Rattle.std.proofs.Common.{◌≡◌, List, [], ◌∷◌, Option, Some, None, Result, Ok, Err, map, sym, ap, ◌∙◌, refl, subst}
 use Rattle.stp_text.specs.Tree.{Tree, Trees}
-use Rattle.stp_offence.specs.declared.offence.Offence.{Offence}
-use Rattle.stp_offence.specs.declared.phase.ReadFault.{ReadFault}
-use Rattle.stp_offence.specs.Read.{Read, IsRead}
-use Rattle.stp_offence.specs.Phases.{chosen, ended, or_else, refusal_of}
-use Rattle.stp_section.specs.Problem.{Problem, problem_read}
+use Rattle.stp_refusal.specs.declared.offence.Offence.{Offence}
+use Rattle.stp_refusal.specs.declared.phase.ReadFault.{ReadFault}
+use Rattle.stp_refusal.specs.Read.{Read, IsRead}
+use Rattle.stp_refusal.specs.Phases.{chosen, ended, or_else, refusal_of}
+use Rattle.stp_domain_parts.specs.Problem.{Problem, problem_read}
 use Rattle.stp_schema.specs.declared.rows.ObjectRow.{ObjectRow}
 use Rattle.stp_schema.specs.declared.domain.Domain.{Domain}
 use Rattle.stp_schema.specs.Rows.{Thing, thing_of, type_names_of}
@@ -13,10 +13,10 @@ use Rattle.stp_schema.specs.Known.{known}
 use Rattle.stp_schema.specs.Formula.{Formula}
 use Rattle.stp_schema.specs.Views.{PlainDomain, PlainProblem, domain_of}
 use Rattle.stp_condition.specs.Conditions.{condition_read}
-use Rattle.stp_facts.specs.Objects.{objects_read}
-use Rattle.stp_facts.specs.Facts.{State, facts_read}
-use Rattle.stp_sizes.specs.Sizes.{size_of}
-use Rattle.stp_domain.specs.Reading.{unless_refused}
+use Rattle.stp_problem.specs.Objects.{objects_read}
+use Rattle.stp_problem.specs.Facts.{State, facts_read}
+use Rattle.stp_problem.specs.Sizes.{size_of}
+use Rattle.stp_refusal.specs.Phases.{unless_refused}
 use Rattle.stp_problem.specs.Reading.{known_with, sizes_wrong, problem_or_refusal}
 
 -- a phase that ended well found nothing

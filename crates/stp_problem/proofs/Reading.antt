@@ -1,41 +1,20 @@
--- What is read of a domain's tree and a problem's tree.
+-- What is read of a problem's tree.
 use Rattle.std.proofs.Common.{◌≡◌, List, [], ◌∷◌, Ok, None, length, take, refl, ap, ◌∙◌, subst}
 use Rattle.stp_text.specs.Tree.{Tree}
-use Rattle.stp_offence.specs.declared.code.Code.TheVariants.{P06}
-use Rattle.stp_offence.specs.declared.offence.Offence.{Offence}
-use Rattle.stp_offence.specs.Phases.{chosen}
-use Rattle.stp_lists.specs.Entries.{entries_of}
+use Rattle.stp_refusal.specs.declared.code.Code.TheVariants.{P06}
+use Rattle.stp_refusal.specs.declared.offence.Offence.{Offence}
+use Rattle.stp_refusal.specs.Phases.{chosen}
+use Rattle.stp_domain_parts.specs.Entries.{entries_of}
 use Rattle.stp_schema.specs.Views.{PlainDomain, PlainProblem}
-use Rattle.stp_declared.proofs.Numbering.{types_some}
-use Rattle.stp_condition.proofs.Typed.{condition_typed}
-use Rattle.stp_facts.specs.Objects.{with_objects, declared_objects}
-use Rattle.stp_facts.specs.Facts.{nothing}
-use Rattle.stp_facts.proofs.Typed.{items_typed}
-use Rattle.stp_domain.specs.Reading.{declarations_phase, phases as domain_phases, domain_of_tree, domain_or_refusal}
-use Rattle.stp_problem.specs.Reading.{HasTypedConstants, sizes_wrong, parts_phase, objects_phase, facts_phase, goal_phase, known_in, size_in, phases, problem_of_tree, problem_or_refusal}
+use Rattle.stp_condition.proofs.TypedConditions.{condition_typed}
+use Rattle.stp_domain_tables.specs.Objects.{HasLawfulConstants, with_objects}
+use Rattle.stp_problem.specs.Objects.{declared_objects}
+use Rattle.stp_problem.specs.Facts.{nothing}
+use Rattle.stp_problem.proofs.Typed.{items_typed}
+use Rattle.stp_problem.specs.Reading.{sizes_wrong, parts_phase, objects_phase, facts_phase, goal_phase, known_in, size_in, phases, problem_of_tree, problem_or_refusal}
 use Rattle.stp_problem.specs.Laws.{IsTypedProblem}
 use Rattle.stp_problem.proofs.Accepting.{accepted_value, accepted_none, first_none, rest_none}
-use Rattle.stp_problem.proofs.Constants.{constants_once, objects_begin}
-
--- ---- domains
-
--- constants of declared types, each name once
-record AreLawful (d : PlainDomain) : Type 0 where
-  typed : HasTypedConstants d
-  once : with_objects [] d.constants ≡ d.constants
-
-tree_lawful : (t : Tree) → AreLawful (domain_of_tree t)
-tree_lawful t =
-    let d = (declarations_phase t).value in
-    let some = types_some d.type_items in
-    let h = constants_once (domain_of_tree t).types d.constants some in
-    record { typed = record { types = some; constants = h.kinds }; once = h.once }
-
-read_lawful : (t : Tree) (d : PlainDomain) → domain_or_refusal t ≡ Ok d → AreLawful d
-read_lawful t d e = subst AreLawful (accepted_value (domain_of_tree t) (chosen (domain_phases t)) d e) (tree_lawful t)
-
-pub domain_fits : (t : Tree) (d : PlainDomain) → domain_or_refusal t ≡ Ok d → HasTypedConstants d
-domain_fits t d e = (read_lawful t d e).typed
+use Rattle.stp_problem.proofs.Constants.{objects_begin}
 
 -- ---- problems
 
@@ -66,7 +45,7 @@ module _ (d : PlainDomain) (u : Tree) (none : chosen (phases d u) ≡ None) wher
       let more = declared_objects d.types (entries_of P06 [] None (parts_phase d u).value.objects).value in
       ap (λ constants. take (length d.constants) (with_objects constants more)) once ∙ objects_begin d.constants more
 
-  tree_typed : AreLawful d → IsTypedProblem d (problem_of_tree d u)
+  tree_typed : HasLawfulConstants d → IsTypedProblem d (problem_of_tree d u)
   tree_typed h =
       let state = items_typed (known_in d u) nothing (parts_phase d u).value.init (record { facts = tt; values = tt }) facts_none in
       record {
@@ -74,10 +53,10 @@ module _ (d : PlainDomain) (u : Tree) (none : chosen (phases d u) ≡ None) wher
         constants = objects_lead h.once;
         facts = state.facts;
         values = state.values;
-        goal = condition_typed (known_in d u) h.typed.types (parts_phase d u).value.goal [] goal_none;
+        goal = condition_typed (known_in d u) h.types (parts_phase d u).value.goal [] goal_none;
       }
 
-pub problem_typed : (t u : Tree) (d : PlainDomain) (p : PlainProblem) → domain_or_refusal t ≡ Ok d → problem_or_refusal d u ≡ Ok p → IsTypedProblem d p
-problem_typed t u d p e i =
+pub problem_typed : (u : Tree) (d : PlainDomain) (p : PlainProblem) → HasLawfulConstants d → problem_or_refusal d u ≡ Ok p → IsTypedProblem d p
+problem_typed u d p h i =
     subst (IsTypedProblem d) (accepted_value (problem_of_tree d u) (chosen (phases d u)) p i)
-    (tree_typed d u (accepted_none (problem_of_tree d u) (chosen (phases d u)) p i) (read_lawful t d e))
+    (tree_typed d u (accepted_none (problem_of_tree d u) (chosen (phases d u)) p i) h)

@@ -2,18 +2,18 @@
 use Rattle.std.proofs.Common.{◌≡◌, ℕ, List, [], ◌∷◌, Option, Some, None, Ok, Err, map, sym, ap, ◌∙◌, subst}
 use Rattle.std.proofs.Math.Path.{fun_ext}
 use Rattle.std.specs.Prelude.{slice_index}
-use Rattle.stp_ancestors.specs.Rows.{parents_of as parents_in}
-use Rattle.stp_offence.specs.declared.code.Code.{Code}
-use Rattle.stp_offence.specs.declared.offence.Offence.{Offence}
-use Rattle.stp_offence.specs.declared.phase.ReadFault.TheVariants.{Refused}
-use Rattle.stp_offence.specs.Read.{Finds}
-use Rattle.stp_offence.specs.Phases.{chosen, ended, or_else}
+use Rattle.stp_types.specs.Rows.{parents_of as parents_in}
+use Rattle.stp_refusal.specs.declared.code.Code.{Code}
+use Rattle.stp_refusal.specs.declared.offence.Offence.{Offence}
+use Rattle.stp_refusal.specs.declared.phase.ReadFault.TheVariants.{Refused}
+use Rattle.stp_refusal.specs.Read.{Finds}
+use Rattle.stp_refusal.specs.Phases.{chosen, ended, or_else}
 use Rattle.stp_schema.specs.declared.rows.ObjectRow.{ObjectRow}
 use Rattle.stp_schema.specs.declared.domain.Domain.{Domain}
 use Rattle.stp_schema.specs.Rows.{thing_of, parents_of}
 use Rattle.stp_schema.specs.Formula.{Formula}
 use Rattle.stp_schema.specs.Schemas.{PlainSchema}
-use Rattle.stp_sizes.specs.Sizes.{AreSizes, size_of}
+use Rattle.stp_problem.specs.Sizes.{AreSizes, size_of}
 use Rattle.stp_problem.specs.Reading.{goal_wrong, actions_wrong, sizes_wrong}
 use Rattle.stp_problem.proofs.Phases.{ended_well}
 

@@ -1,20 +1,19 @@
 -- The types of objects are declared.
-use Rattle.std.proofs.Common.{ℕ, ◌<◌, Bool, true, false, if◌then◌else◌, List, [], ◌∷◌, ◌++◌, Option, None, length, map, All, subst}
+use Rattle.std.proofs.Common.{ℕ, ◌<◌, Bool, true, false, if◌then◌else◌, List, [], ◌∷◌, ◌++◌, Option, None, length, map, All, sym, ◌≡◌, subst}
 use Rattle.std.proofs.lemmas.List.{length-map}
-use Rattle.std.proofs.lemmas.List.Elements.{All-nil, All-cons, All-head, All-tail, All-push, All-same}
+use Rattle.std.proofs.lemmas.List.Elements.{All-nil, All-cons, All-head, All-map, All-tail, All-push, All-same}
 use Rattle.stp_text.specs.Tree.{Trees}
-use Rattle.stp_offence.specs.declared.code.Code.TheVariants.{P06}
-use Rattle.stp_offence.specs.declared.offence.Offence.{Offence}
-use Rattle.stp_offence.specs.Read.{IsRead}
-use Rattle.stp_names.specs.Names.{is_new_in}
-use Rattle.stp_lists.specs.Entries.{Plain, entries_of}
+use Rattle.stp_refusal.specs.declared.code.Code.TheVariants.{P06}
+use Rattle.stp_refusal.specs.declared.offence.Offence.{Offence}
+use Rattle.stp_refusal.specs.Read.{IsRead}
+use Rattle.stp_tables.specs.Names.{is_new_in}
+use Rattle.stp_domain_parts.specs.Entries.{Plain, entries_of}
 use Rattle.stp_schema.specs.declared.rows.ObjectRow.{ObjectRow}
 use Rattle.stp_schema.specs.declared.domain.Domain.{Domain}
 use Rattle.stp_schema.specs.Rows.{Thing, thing_of, thing_names, type_names_of}
-use Rattle.stp_schema.specs.Views.{domain_of}
-use Rattle.stp_declared.proofs.Numbering.{kind_number_below}
-use Rattle.stp_facts.specs.Objects.{with_object, with_objects, declared_object, declared_objects, objects_read}
-use Rattle.stp_problem.specs.Reading.{HasTypedConstants}
+use Rattle.stp_domain_tables.proofs.Numbering.{kind_number_below}
+use Rattle.stp_domain_tables.specs.Objects.{with_object, with_objects}
+use Rattle.stp_problem.specs.Objects.{declared_object, declared_objects, objects_read}
 use Rattle.stp_problem.proofs.Phases.{objects_moved}
 
 -- each of these has one of so many types
@@ -51,12 +50,16 @@ objects_kinds types constants items some h =
     (declared_kinds types (entries_of P06 [] None items).value some)
 
 -- the objects that are read for a domain have types of its own
-pub rows_fit : (d : Domain) (f : Option Offence) (rows : List ObjectRow) (items : Trees) → HasTypedConstants (domain_of d) → IsRead None f (map thing_of rows) (objects_read d.declared.type_names (map thing_of d.constants.now) items) → All (λ (o : ObjectRow). o.kind < length d.types.now) rows
-rows_fit d f rows items fits h =
+pub rows_fit : (d : Domain) (f : Option Offence) (rows : List ObjectRow) (items : Trees) → IsRead None f (map thing_of rows) (objects_read d.declared.type_names (map thing_of d.constants.now) items) → All (λ (o : ObjectRow). o.kind < length d.types.now) rows
+rows_fit d f rows items h =
     let types = type_names_of d.types.now in
     let constants = map thing_of d.constants.now in
     let read = objects_read types constants items in
-    let kinds = objects_kinds types constants items fits.types fits.constants in
+    let number : length d.types.now ≡ length types = sym (length-map d.types.now (λ r. r.name.now)) in
+    let some : 0 < length types = subst (λ n. 0 < n) number d.has_type in
+    let typed : All (λ (t : Thing). t.kind < length types) constants =
+    All-map (λ (t : Thing). t.kind < length types) thing_of d.constants.now (subst (λ n. All (λ (o : ObjectRow). o.kind < n) d.constants.now) number d.typed_constants) in
+    let kinds = objects_kinds types constants items some typed in
     let same = (objects_moved d f (map thing_of rows) items h).same in
     subst (λ n. All (λ (o : ObjectRow). o.kind < n) rows) (length-map d.types.now (λ r. r.name.now))
     (rows_kinds (length types) rows (All-same (λ (t : Thing). t.kind < length types) (map thing_of rows) read.value same kinds))

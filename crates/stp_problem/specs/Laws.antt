@@ -1,15 +1,11 @@
--- What is read of a domain's tree and a problem's tree without a refusal.
+-- What is read of a problem's tree without a refusal.
 use Rattle.std.specs.Prelude.{◌≡◌, [], Ok, length, take}
 use Rattle.stp_text.specs.Tree.{Tree}
 use Rattle.stp_schema.specs.Views.{PlainDomain, PlainProblem}
-use Rattle.stp_condition.specs.Typed.{IsTyped}
-use Rattle.stp_facts.specs.Typed.{AreFactsTyped, AreValuesTyped}
-use Rattle.stp_domain.specs.Reading.{domain_or_refusal}
-use Rattle.stp_problem.specs.Reading.{HasTypedConstants, known_with, problem_or_refusal}
-
--- the constants of a domain have types of its own
-abbrev pub ReadDomainsFit : Type 0
-ReadDomainsFit = (t : Tree) (d : PlainDomain) → domain_or_refusal t ≡ Ok d → HasTypedConstants d
+use Rattle.stp_condition.specs.TypedConditions.{IsTyped}
+use Rattle.stp_domain_tables.specs.Objects.{HasLawfulConstants}
+use Rattle.stp_problem.specs.Typed.{AreFactsTyped, AreValuesTyped}
+use Rattle.stp_problem.specs.Reading.{known_with, problem_or_refusal}
 
 -- A problem of this domain, whose objects begin with the constants. Its facts, its values and its goal are made of what is declared, and fit it.
 pub record IsTypedProblem (d : PlainDomain) (p : PlainProblem) : Type 0 where
@@ -19,5 +15,6 @@ pub record IsTypedProblem (d : PlainDomain) (p : PlainProblem) : Type 0 where
   pub values : AreValuesTyped (known_with d p.objects) p.values
   pub goal : IsTyped (known_with d p.objects) [] p.goal
 
+-- for a domain whose constants are lawful, as those of each domain that is read are
 abbrev pub ReadProblemsAreTyped : Type 0
-ReadProblemsAreTyped = (t u : Tree) (d : PlainDomain) (p : PlainProblem) → domain_or_refusal t ≡ Ok d → problem_or_refusal d u ≡ Ok p → IsTypedProblem d p
+ReadProblemsAreTyped = (u : Tree) (d : PlainDomain) (p : PlainProblem) → HasLawfulConstants d → problem_or_refusal d u ≡ Ok p → IsTypedProblem d p

@@ -1,2 +1,12 @@
+pub mod Sizes
+pub mod Passing
+pub mod Nodes
+pub mod Counting
+pub mod Objects
+pub mod Calls
+pub mod Items
+pub mod Facts
+pub mod Views
+pub mod Typed
 pub mod Reading
 pub mod Laws

@@ -1,23 +1,23 @@
 -- The problem of a tree, or its one refusal.
-use Rattle.std.specs.Prelude.{ℕ, ◌<◌, if◌then◌else◌, List, [], ◌∷◌, length, All, Result}
+use Rattle.std.specs.Prelude.{ℕ, if◌then◌else◌, List, [], ◌∷◌, Result}
 use Rattle.stp_text.specs.Tree.{Tree}
-use Rattle.stp_offence.specs.declared.code.Code.TheVariants.{P13, P14}
-use Rattle.stp_offence.specs.declared.offence.Offence.{Offence}
-use Rattle.stp_offence.specs.declared.phase.ReadFault.{ReadFault}
-use Rattle.stp_offence.specs.Read.{Read, given, offence_at}
-use Rattle.stp_offence.specs.Phases.{chosen}
-use Rattle.stp_section.specs.Problem.{Problem, problem_read}
+use Rattle.stp_refusal.specs.declared.code.Code.TheVariants.{P13, P14}
+use Rattle.stp_refusal.specs.declared.offence.Offence.{Offence}
+use Rattle.stp_refusal.specs.declared.phase.ReadFault.{ReadFault}
+use Rattle.stp_refusal.specs.Read.{Read, given, offence_at}
+use Rattle.stp_refusal.specs.Phases.{chosen}
+use Rattle.stp_domain_parts.specs.Problem.{Problem, problem_read}
 use Rattle.stp_schema.specs.Rows.{Thing}
 use Rattle.stp_schema.specs.Known.{Known}
 use Rattle.stp_schema.specs.Formula.{Formula}
 use Rattle.stp_schema.specs.Schemas.{PlainSchema}
 use Rattle.stp_schema.specs.Views.{PlainDomain, PlainProblem}
 use Rattle.stp_condition.specs.Conditions.{condition_read}
-use Rattle.stp_facts.specs.Objects.{objects_read}
-use Rattle.stp_facts.specs.Facts.{State, facts_read}
-use Rattle.stp_sizes.specs.Sizes.{size_of}
-use Rattle.stp_nodes.specs.Nodes.{nodes, are_too_many, first_too_large}
-use Rattle.stp_domain.specs.Reading.{unless_refused}
+use Rattle.stp_problem.specs.Objects.{objects_read}
+use Rattle.stp_problem.specs.Facts.{State, facts_read}
+use Rattle.stp_problem.specs.Sizes.{size_of}
+use Rattle.stp_problem.specs.Nodes.{nodes, are_too_many, first_too_large}
+use Rattle.stp_refusal.specs.Phases.{unless_refused}
 
 -- what a domain declares, and these objects
 abbrev pub known_with : PlainDomain → List Thing → Known
@@ -75,8 +75,3 @@ problem_of_tree d t = record {
 -- The problem of a tree, for a domain; or, of the earliest phase with an offence, the one of the least place, and there the one of the least code.
 abbrev pub problem_or_refusal : PlainDomain → Tree → Result PlainProblem ReadFault
 problem_or_refusal d t = unless_refused (problem_of_tree d t) (chosen (phases d t))
-
--- A domain whose constants have types of its own, as one that is read has: `object` is always a type.
-pub record HasTypedConstants (d : PlainDomain) : Type 0 where
-  pub types : 0 < length d.types
-  pub constants : All (λ c. c.kind < length d.types) d.constants

@@ -2,24 +2,23 @@
 
 ghost use Rattle.std.specs.Prelude.{◌≡◌, ℕ, [], Ok, Err, IfOk};
 ghost use Rattle.stp_text.specs.Tree.{view};
-ghost use Rattle.stp_offence.specs.declared.code.Code.{Code as TheCode};
-ghost use Rattle.stp_offence.specs.Read.{IsRead};
+ghost use Rattle.stp_refusal.specs.declared.code.Code.{Code as TheCode};
+ghost use Rattle.stp_refusal.specs.Read.{IsRead};
 ghost use Rattle.stp_schema.specs.Formula.{formula};
 ghost use Rattle.stp_schema.specs.Known.{known};
 ghost use Rattle.stp_schema.specs.Views.{domain_of, problem_of};
 ghost use Rattle.stp_condition.specs.Conditions.{condition_read};
-ghost use Rattle.stp_problem.specs.Reading.{HasTypedConstants, problem_or_refusal};
+ghost use Rattle.stp_problem.specs.Reading.{problem_or_refusal};
 
 use crate::sizing::judge_sizes;
+use crate::{read_facts, read_objects};
 use bumpalo::Bump;
 use std::alloc::Global;
 use stp_base::Memory;
-use stp_condition::read_condition_in;
-use stp_facts::{read_facts, read_objects};
-use stp_offence::{Offence, ReadFault, end_phase};
+use stp_condition::{Scope, read_condition_in};
+use stp_domain_parts::problem_parts;
+use stp_refusal::{Offence, ReadFault, end_phase};
 use stp_schema::{Declared, Domain, Lifted, Objects, Problem};
-use stp_section::problem_parts;
-use stp_term::Scope;
 use stp_text::Sexpr;
 
 /// The condition of a goal, in which no variable is known.
@@ -50,7 +49,6 @@ pub fn read_problem<'a>(
     domain: Domain<'a>,
     tree: &'a Sexpr<'a>,
 ) -> Result<Problem<'a>, ReadFault>
-    requires { HasTypedConstants (domain_of domain) }
     ensures ok { IfOk result (λ p. problem_or_refusal (domain_of domain.entry) (view tree.now) ≡ Ok (problem_of p)) }
     ensures refused { (code : TheCode) (at : ℕ) → result ≡ Err (ReadFault.Refused code at)
         → problem_or_refusal (domain_of domain.entry) (view tree.now) ≡ Err (ReadFault.Refused code at) }

@@ -1,20 +1,19 @@
 //! Goals and actions that are too large once their quantifiers are expanded.
 
 ghost use Rattle.std.specs.Prelude.{◌≡◌, ℕ, ◌<◌, ◌^◌, All, length, map, slice_index, None, Some, Err, OnOk};
-ghost use Rattle.stp_offence.specs.declared.code.Code.{Code as TheCode};
-ghost use Rattle.stp_offence.specs.Phases.{chosen};
-ghost use Rattle.stp_offence.specs.Read.{Finds};
+ghost use Rattle.stp_refusal.specs.declared.code.Code.{Code as TheCode};
+ghost use Rattle.stp_refusal.specs.Phases.{chosen};
+ghost use Rattle.stp_refusal.specs.Read.{Finds};
 ghost use Rattle.stp_schema.specs.Rows.{parents_of, thing_of};
 ghost use Rattle.stp_schema.specs.Formula.{formula};
 ghost use Rattle.stp_schema.specs.Schemas.{schema_of};
-ghost use Rattle.stp_sizes.specs.Sizes.{size_of};
+ghost use Rattle.stp_problem.specs.Sizes.{size_of};
 ghost use Rattle.stp_problem.specs.Reading.{goal_wrong, actions_wrong, sizes_wrong};
 
+use crate::{first_too_large, is_too_large, sizes};
 use std::alloc::Global;
-use stp_nodes::{first_too_large, is_too_large};
-use stp_offence::{Code, Offence, ReadFault, end_phase, note};
+use stp_refusal::{Code, Offence, ReadFault, end_phase, note};
 use stp_schema::{Domain, Lifted, Objects, Schema};
-use stp_sizes::sizes;
 
 /// Looks for a goal with more expanded nodes than are accepted, where each type has so many objects.
 fn judge_goal(sizes: &[u32], at: u32, goal: &Lifted<'_>, first: &mut Option<Offence>)

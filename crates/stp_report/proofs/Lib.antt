@@ -1,3 +1,4 @@
 pub mod FaultTimes
 mod Times
 mod Runs
+pub mod OneText

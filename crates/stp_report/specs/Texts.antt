@@ -3,8 +3,8 @@ use Rattle.std.specs.Prelude.{ℕ, pos, ◌==◌, if◌then◌else◌, List, [],
 use Rattle.std.specs.Fmt.{decimal}
 use Rattle.stp_frac.specs.Fractions.{lowest}
 use Rattle.stp_frac.specs.Reading.{text_of as number_text}
-use Rattle.stp_offence.specs.declared.code.Code.{Code}
-use Rattle.stp_offence.specs.declared.code.Code.TheVariants as code
+use Rattle.stp_refusal.specs.declared.code.Code.{Code}
+use Rattle.stp_refusal.specs.declared.code.Code.TheVariants as code
 use Rattle.stp_happen.specs.declared.fault.Fault.{Fault}
 use Rattle.stp_happen.specs.declared.fault.Fault.TheVariants as faults
 use Rattle.stp_happen.specs.declared.run.Entry.{Entry}

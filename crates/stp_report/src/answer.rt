@@ -1,7 +1,7 @@
 //! The answers of the program.
 
 use stp_happen::{Fault, Run};
-use stp_offence::Code;
+use stp_refusal::Code;
 
 /// What a refusal is about: a file that the command line names, or its list of durations.
 #[derive(Clone, Copy, Debug, PartialEq, Eq)]

@@ -3,7 +3,7 @@
 ghost use Rattle.std.specs.Prelude.{◌≡◌};
 ghost use Rattle.stp_report.specs.Texts.{code_text};
 
-use stp_offence::Code;
+use stp_refusal::Code;
 
 /// The word of a code.
 pub fn code_word(code: Code) -> &'static str

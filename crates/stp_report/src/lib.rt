@@ -11,7 +11,4 @@ pub mod replay;
 
 pub use answer::{Answer, FileName};
 pub use print::print_answer;
-pub use stp_offence::Code;
-
-#[cfg(test)]
-mod tests;
+pub use stp_refusal::Code;

@@ -13,7 +13,7 @@ use crate::replay::push_replay;
 use std::alloc::Global;
 use stp_base::{Memory, Text};
 use stp_happen::Fault;
-use stp_offence::Code;
+use stp_refusal::Code;
 
 fn file_word(file: FileName) -> &'static str
     ensures { result.now ≡ file_text file }

@@ -3,10 +3,10 @@ use Rattle.std.proofs.Common.{◌≡◌, ℕ, zero, suc, ◌<◌, ◌≤◌, Boo
 use Rattle.std.specs.Prelude.{◌||◌, slice_index}
 use Rattle.std.proofs.lemmas.Bool.Decides.{nat_tests}
 use Rattle.std.proofs.lemmas.List.{get_or_past}
-use Rattle.stp_ancestors.specs.declared.row.Ancestry.{Ancestry}
-use Rattle.stp_ancestors.specs.Forest.{parent_of, climbs, is_below, IsTable}
-use Rattle.stp_ancestors.specs.Rows.{AreAncestries, row_at, parents_of}
-use Rattle.stp_ancestors.proofs.Asking.{size, parent_is}
+use Rattle.stp_types.specs.declared.row.Ancestry.{Ancestry}
+use Rattle.stp_types.specs.Forest.{parent_of, climbs, is_below, IsTable}
+use Rattle.stp_types.specs.Rows.{AreAncestries, row_at, parents_of}
+use Rattle.stp_types.proofs.Asking.{size, parent_is}
 
 either_way : (b c d : Bool) → c ≡ d → (if b then true else c) ≡ (b || d)
 either_way true c d e = refl

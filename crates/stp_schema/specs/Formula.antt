@@ -8,30 +8,30 @@ use Rattle.stp_schema.specs.declared.lifted.Lifted.TheFolds.{fold-Lifted}
 
 mutual
   pub data Formula : Type 0 where
-    Holds : (symbol : ℕ) → (terms : List Term) → Formula
-    Equal : (one other : Term) → Formula
-    Negation : (inner : Formula) → Formula
-    Each : (members : Formulas) → Formula
-    Either : (members : Formulas) → Formula
-    ForEach : (kinds : List ℕ) → (body : Formula) → Formula
-    ForAny : (kinds : List ℕ) → (body : Formula) → Formula
+    Atom : (symbol : ℕ) → (terms : List Term) → Formula
+    Same : (one other : Term) → Formula
+    Not : (inner : Formula) → Formula
+    And : (members : Formulas) → Formula
+    Or : (members : Formulas) → Formula
+    Every : (kinds : List ℕ) → (body : Formula) → Formula
+    Any : (kinds : List ℕ) → (body : Formula) → Formula
 
   pub data Formulas : Type 0 where
-    NoFormulas : Formulas
-    And : (first : Formula) → (rest : Formulas) → Formulas
+    NoMore : Formulas
+    More : (first : Formula) → (rest : Formulas) → Formulas
 
 abbrev pub formulas_of : List Formula → Formulas
-formulas_of [] = NoFormulas
-formulas_of (f ∷ fs) = And f (formulas_of fs)
+formulas_of [] = NoMore
+formulas_of (f ∷ fs) = More f (formulas_of fs)
 
 abbrev pub formula_step : Lifted-F Formula → Formula
-formula_step (Lifted-F.Atom atom) = Holds atom.symbol atom.terms.now
-formula_step (Lifted-F.Same one other) = Equal one other
-formula_step (Lifted-F.Not inner) = Negation inner.now
-formula_step (Lifted-F.And members) = Each (formulas_of members.now)
-formula_step (Lifted-F.Or members) = Either (formulas_of members.now)
-formula_step (Lifted-F.Every kinds body) = ForEach kinds.now body.now
-formula_step (Lifted-F.Any kinds body) = ForAny kinds.now body.now
+formula_step (Lifted-F.Atom atom) = Atom atom.symbol atom.terms.now
+formula_step (Lifted-F.Same one other) = Same one other
+formula_step (Lifted-F.Not inner) = Not inner.now
+formula_step (Lifted-F.And members) = And (formulas_of members.now)
+formula_step (Lifted-F.Or members) = Or (formulas_of members.now)
+formula_step (Lifted-F.Every kinds body) = Every kinds.now body.now
+formula_step (Lifted-F.Any kinds body) = Any kinds.now body.now
 
 -- what a condition in an arena stands for
 abbrev pub formula : Lifted → Formula
@@ -39,7 +39,7 @@ formula = fold-Lifted Formula formula_step
 
 -- true, and what stands in the place of what does not match
 abbrev pub nothing : Formula
-nothing = Each NoFormulas
+nothing = And NoMore
 
 -- a predicate or a function with its arguments
 pub record PlainAtom : Type 0 where

@@ -1,5 +1,5 @@
 -- Actions over their parameters without pointers.
-use Rattle.std.specs.Prelude.{ℕ, List, map}
+use Rattle.std.specs.Prelude.{ℕ, Bool, List, map}
 use Rattle.stp_schema.specs.declared.domain.Timing.{Timing}
 use Rattle.stp_schema.specs.declared.domain.Timing.TheVariants as timings
 use Rattle.stp_schema.specs.declared.domain.Schema.{Schema}
@@ -21,6 +21,8 @@ pub record PlainSchema : Type 0 where
   pub name : List ℕ
   pub parameters : List ℕ
   pub timing : PlainTiming
+  -- whether a condition stands in the text
+  pub has_condition : Bool
   pub start_cond : Formula
   pub over_all : Formula
   pub end_cond : Formula
@@ -34,6 +36,7 @@ schema_of s = record {
   name = s.name.now;
   parameters = s.parameters.now;
   timing = timing_of s.timing;
+  has_condition = s.has_condition;
   start_cond = formula s.start_cond.now;
   over_all = formula s.over_all.now;
   end_cond = formula s.end_cond.now;

@@ -1,14 +1,14 @@
 //! What a domain declares before its actions, with look-ups by name.
 
 ghost use Rattle.std.specs.Prelude.{◌≡◌, ◌<◌, length, map, List, ℕ, IfSome};
-ghost use Rattle.stp_ancestors.specs.Forest.{is_below as is_below_lem};
-ghost use Rattle.stp_names.specs.Names.{number_of};
+ghost use Rattle.stp_types.specs.Forest.{is_below};
+ghost use Rattle.stp_tables.specs.Names.{number_of};
 ghost use Rattle.stp_schema.specs.Rows.{type_names_of, parents_of, symbol_names_of, object_names_of};
-ghost use Rattle.stp_ancestors.specs.Rows.{AreAncestries, parents_of as parents_of_rows};
+ghost use Rattle.stp_types.specs.Rows.{AreAncestries, parents_of as parents_of_rows};
 
 use crate::rows::{ObjectRow, Symbol, TypeRow};
-use stp_ancestors::{Ancestry, is_below};
-use stp_names::Names;
+use stp_tables::Names;
+use stp_types::{Ancestry, is_below};
 
 /// Types, predicates and functions in the order of their numbers, and the tables of their names.
 #[derive(Drop)]
@@ -65,7 +65,7 @@ impl<'a> Declared<'a> {
 
     /// Whether a type is another, or below it.
     pub fn is_below(&self, kind: u32, other: u32) -> bool
-        ensures { result ≡ is_below_lem (parents_of self.now.types.now) kind other }
+        ensures { result ≡ is_below (parents_of self.now.types.now) kind other }
     {
         let _ = &self.types;
         let count = self.ancestries.len();

@@ -1,8 +1,8 @@
 //! Domains.
 
-ghost use Rattle.std.specs.Prelude.{◌≡◌, ◌<◌, length, map, IfSome};
-ghost use Rattle.stp_ancestors.specs.Forest.{is_below as is_below_lem};
-ghost use Rattle.stp_names.specs.Names.{number_of};
+ghost use Rattle.std.specs.Prelude.{◌≡◌, ◌<◌, All, length, map, IfSome};
+ghost use Rattle.stp_types.specs.Forest.{is_below};
+ghost use Rattle.stp_tables.specs.Names.{number_of};
 ghost use Rattle.stp_schema.specs.Rows.{parents_of, type_names_of, shape_of};
 ghost use Rattle.stp_schema.specs.Schemas.{schema_names_of};
 
@@ -10,7 +10,7 @@ use crate::declared::Declared;
 use crate::expr::Expr;
 use crate::lifted::{Lifted, LiftedAtom};
 use crate::rows::{ObjectRow, Symbol, TypeRow};
-use stp_names::Names;
+use stp_tables::Names;
 
 /// How long an action lasts: the low and the high bound of its duration, which the plan or the environment chooses.
 #[derive(Clone, Copy)]
@@ -26,6 +26,8 @@ pub struct Schema<'a> {
     pub name: &'a [u8],
     pub parameters: &'a [u32],
     pub timing: Timing<'a>,
+    /// Whether a condition stands in the text: one that is missing has no nodes, and `()` has one.
+    pub has_condition: bool,
     pub start_cond: &'a Lifted<'a>,
     pub over_all: &'a Lifted<'a>,
     pub end_cond: &'a Lifted<'a>,
@@ -35,7 +37,8 @@ pub struct Schema<'a> {
     pub end_dels: &'a [LiftedAtom<'a>],
 }
 
-/// A domain. All lists stand in the order of the text, types in the order of first sight behind `object`.
+/// A domain. All lists stand in the order of the text, types in the order of first sight behind `object`. There is
+/// a type, and each constant has one.
 #[derive(Drop)]
 pub struct Domain<'a> {
     pub name: &'a [u8],
@@ -46,6 +49,8 @@ pub struct Domain<'a> {
     pub schemas: &'a [Schema<'a>],
     pub declared: Declared<'a>,
     pub schema_names: Names,
+    pub ghost has_type: { 0 < length types.now },
+    pub ghost typed_constants: { All (λ c. c.kind < length types.now) constants.now },
     pub ghost same_parents: { parents_of types.now ≡ parents_of declared.types.now },
     pub ghost same_types: { type_names_of types.now ≡ type_names_of declared.types.now },
     pub ghost same_predicates: { map shape_of predicates.now ≡ map shape_of declared.predicates.now },
@@ -56,7 +61,7 @@ pub struct Domain<'a> {
 impl<'a> Domain<'a> {
     /// Whether a type is another, or below it.
     pub fn is_below(&self, kind: u32, other: u32) -> bool
-        ensures { result ≡ is_below_lem (parents_of self.now.types.now) kind other }
+        ensures { result ≡ is_below (parents_of self.now.types.now) kind other }
     {
         let _ = &self.types;
         self.declared.is_below(kind, other)

@@ -14,5 +14,5 @@ pub use expr::Expr;
 pub use lifted::{Lifted, LiftedAtom, Term};
 pub use problem::{Fact, Given, Problem};
 pub use rows::{ObjectRow, Symbol, TypeRow};
-pub use stp_names::Names;
-pub use stp_offence::Code;
+pub use stp_refusal::Code;
+pub use stp_tables::Names;

@@ -1,7 +1,7 @@
 //! Problems.
 
 ghost use Rattle.std.specs.Prelude.{◌≡◌, ◌<◌, length, option_map, IfSome};
-ghost use Rattle.stp_names.specs.Names.{number_of};
+ghost use Rattle.stp_tables.specs.Names.{number_of};
 ghost use Rattle.stp_schema.specs.Rows.{object_names_of};
 
 use crate::domain::Domain;
@@ -9,7 +9,7 @@ use crate::lifted::Lifted;
 use crate::rows::ObjectRow;
 use stp_base::ObjectId;
 use stp_frac::Frac;
-use stp_names::Names;
+use stp_tables::Names;
 
 /// An atom that is true at first.
 #[derive(Clone, Copy)]

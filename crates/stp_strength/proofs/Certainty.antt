@@ -4,12 +4,14 @@ use mathlib.Core.Path.{fun_ext}
 use Rattle.std.proofs.lemmas.Bool.Decides.{nat_tests}
 use Rattle.stp_happen.specs.Plain.{state_after, before, after, at_end}
 use Rattle.stp_happen.proofs.Members.{any_passes, each_of, all_of, kept_alike}
-use Rattle.stp_strength.specs.Windows.{Point, WindowBox, run_when, entry_at, IsInWindow, IsChoice, IsProper, ReadsAlone}
-use Rattle.stp_strength.specs.Facts.{left_by, certain_before, came_by, state_at, at_last}
+use Rattle.stp_window.specs.Windows.{Point, WindowBox, run_when, entry_at, IsInWindow, IsChoice, IsProper, ReadsAlone}
+use Rattle.stp_window.specs.States.{left_by, certain_before, came_by, state_at, at_last}
 use Rattle.stp_strength.specs.Choices.{corner}
-use Rattle.stp_strength.specs.Parts.{sets}
-use Rattle.stp_strength.proofs.LatestWay.{same_left}
-use Rattle.stp_strength.proofs.Apart.{AreCalm, AreWindowsApart, apart_if_interfering, agree_or_apart, reads_interfere}
+use Rattle.stp_window.specs.Certain.{sets}
+use Rattle.stp_window.proofs.LatestPoints.{same_left}
+use Rattle.stp_window.proofs.LastWay.{AreWindowsApart}
+use Rattle.stp_happen.proofs.Interfering.{reads_interfere}
+use Rattle.stp_strength.proofs.Apart.{AreCalm, apart_if_interfering, agree_or_apart}
 
 -- ---- states of a run
 

@@ -7,19 +7,20 @@ use Rattle.std.proofs.lemmas.Bool.Decides.{nat_tests}
 use Rattle.std.proofs.lemmas.Grind.{common_steps}
 use Rattle.std.proofs.lemmas.List.{append-nil}
 use Rattle.std.proofs.lemmas.List.Folds.{list_all-append}
-use Rattle.stp_cond.specs.Truth.{meaning_of, is_below}
-use Rattle.stp_happen.specs.declared.boxes.BoxRun.{BoxRun}
+use Rattle.stp_cond.specs.Truth.{meaning_of, is_below, state_of_row}
+use Rattle.stp_happen.specs.declared.owners.OwnedBox.{OwnedBox}
 use Rattle.stp_happen.specs.Plain.{state_after}
-use Rattle.stp_happen.specs.SoundBox.{IsBoxStep}
-use Rattle.stp_happen.specs.Boxes.{steps_of}
+use Rattle.stp_happen.specs.SoundOwned.{IsOwner}
+use Rattle.stp_happen.specs.OwnerViews.{plain_owners}
 use Rattle.stp_happen.proofs.Members.{kept_alike}
-use Rattle.stp_strength.specs.declared.windows.Window.{Window}
-use Rattle.stp_strength.specs.declared.windows.NumberedStep.{NumberedStep}
-use Rattle.stp_strength.specs.Windows.{Point, OpenSpan, WindowBox, entry_at}
-use Rattle.stp_strength.specs.Failures.{is_unsettled, sublists, others}
-use Rattle.stp_strength.specs.Steps.{points_from, open_spans_from}
-use Rattle.stp_strength.specs.Boxed.{windows_in}
-use Rattle.stp_strength.specs.Views.{point_of, points_of, spans_of, box_of, late_entries}
+use Rattle.stp_window.specs.declared.windows.Window.{Window}
+use Rattle.stp_window.specs.declared.windows.Lasting.{Lasting}
+use Rattle.stp_window.specs.Windows.{Point, OpenSpan, WindowBox, entry_at, is_unsettled}
+use Rattle.stp_strength.specs.Failures.{sublists, others}
+use Rattle.stp_window.specs.OwnerWindows.{points_of_owners, open_spans_of_owners}
+use Rattle.stp_window.specs.Boxed.{windows_in}
+use Rattle.stp_window.specs.Views.{point_of, points_of, spans_of, box_of}
+use Rattle.stp_strength.specs.Views.{late_entries}
 use Rattle.stp_strength.proofs.Certainty.{filter_true}
 
 -- ---- lists
@@ -29,7 +30,7 @@ map_map f g [] = refl
 map_map f g (x ∷ xs) = ap (λ l. g (f x) ∷ l) (map_map f g xs)
 
 -- what windows leave that pass a test
-pub left_of : (initial : List Bool) (windows : List Window) (c : Point → Bool) →
+pub left_of : (initial : ℕ → Bool) (windows : List Window) (c : Point → Bool) →
     state_after initial (late_entries (filter (λ w. c (point_of w)) windows)) ≡ state_after initial (map (entry_at (λ p. p.high)) (filter c (points_of windows)))
 left_of initial windows c =
     ap (state_after initial)
@@ -82,7 +83,7 @@ inside a t b false l k = grind (arith, nat_tests)
 
 -- ---- the whole
 
-pub last_of : (initial : List Bool) (windows : List Window) → state_after initial (late_entries windows) ≡ state_after initial (map (entry_at (λ p. p.high)) (filter (λ p. true) (points_of windows)))
+pub last_of : (initial : ℕ → Bool) (windows : List Window) → state_after initial (late_entries windows) ≡ state_after initial (map (entry_at (λ p. p.high)) (filter (λ p. true) (points_of windows)))
 last_of initial windows = ap (state_after initial) (sym (map_map point_of (entry_at (λ p. p.high)) windows) ∙ ap (map (entry_at (λ p. p.high))) (sym (filter_true (points_of windows))))
 
 -- an early exit, and the last
@@ -100,14 +101,14 @@ not_kept false c f k g h = refl
 pub all_but_the_goal : (a c f k g : Bool) → a ≡ true → c ≡ true → f ≡ true → k ≡ true → g ≡ (a && (c && (f && (k && g))))
 all_but_the_goal a c f k g h i p q = rw (h, i, p, q) refl
 
-pub box_same : (boxed : BoxRun) (windows : List Window) (spans : List NumberedStep) → points_of windows ≡ points_from 1 (steps_of boxed.steps) → spans_of spans ≡ open_spans_from 1 (steps_of boxed.steps) →
+pub box_same : (boxed : OwnedBox) (windows : List Window) (spans : List Lasting) → points_of windows ≡ points_of_owners (plain_owners boxed.owners) → spans_of spans ≡ open_spans_of_owners (plain_owners boxed.owners) →
     box_of windows spans boxed.initial boxed.goal.now ≡ windows_in boxed
 box_same boxed windows spans e f =
-    let box : List Point → List OpenSpan → WindowBox = λ ps os. record { points = ps; spans = os; initial = boxed.initial; goal = meaning_of boxed.goal.now } in
+    let box : List Point → List OpenSpan → WindowBox = λ ps os. record { points = ps; spans = os; initial = state_of_row boxed.initial; goal = meaning_of boxed.goal.now } in
     ap₂ box e f
 
-pub steps_in_range : (boxed : BoxRun) → All (IsBoxStep boxed.grid (length boxed.initial)) boxed.steps
-steps_in_range boxed = ∥∥₁_elim boxed.sound (Prim.hlevel props) (λ b k d h. b.steps_in_range k d h)
+pub owners_in_range : (boxed : OwnedBox) → All (IsOwner boxed.grid (length boxed.initial)) boxed.owners
+owners_in_range boxed = ∥∥₁_elim boxed.sound (Prim.hlevel props) (λ b k d h. b.owners_in_range k d h)
 
-pub goal_in_range : (boxed : BoxRun) → is_below (length boxed.initial) boxed.goal.now ≡ true
+pub goal_in_range : (boxed : OwnedBox) → is_below (length boxed.initial) boxed.goal.now ≡ true
 goal_in_range boxed = ∥∥₁_elim boxed.sound (Prim.hlevel props) (λ b. b.goal_in_range)

@@ -1,22 +1,18 @@
 -- The tests of the static facts, and where a box fails that does not pass them.
-use Rattle.std.proofs.Common.{◌≡◌, ℕ, ◌<◌, ◌≤◌, ◌==◌, nat_lt, nat_le, Bool, true, false, not, ◌&&◌, ◌||◌, cond, max, List, [], ◌∷◌, map, filter, Contains, ◌⊎◌, inl, inr, refl, ap, sym, ◌∙◌, subst, arith, true≢false, eqb-true, eq-eqb}
+use Rattle.std.proofs.Common.{◌≡◌, ℕ, ◌<◌, ◌≤◌, ◌==◌, nat_lt, nat_le, Bool, true, false, not, ◌&&◌, ◌||◌, cond, List, [], ◌∷◌, map, filter, Contains, ◌⊎◌, inl, inr, refl, ap, sym, ◌∙◌, subst, arith, true≢false, eqb-true, eq-eqb}
 use Rattle.std.specs.List.{list_any, list_all}
 use Rattle.std.proofs.lemmas.Bool.{cases_Bool}
 use Rattle.std.proofs.lemmas.Bool.Decides.{nat_tests}
 use Rattle.stp_cond.specs.Atoms.{has, interfere}
-use Rattle.stp_happen.specs.Plain.{Executes, state_after}
+use Rattle.stp_happen.specs.Plain.{state_after}
 use Rattle.stp_happen.proofs.Members.{here, there, each_of, all_of, all_pairs, each_pair, member_map, mapped_member, same_tests, and_left, and_right, and_both, passing_member, any_passes, each_passes, all_pass, kept_member, member_of_kept}
-use Rattle.stp_strength.specs.Windows.{Point, OpenSpan, WindowBox, run_when, entry_at, IsChoice, IsProper, ArePartedIfOne, IsOwn, Meet}
-use Rattle.stp_strength.specs.Facts.{left_by, came_by, state_at, at_last, StayApart, StayCalm, IsFedAlways, IsKeptAt, lows, IsSound}
-use Rattle.stp_strength.specs.Steps.{windows_of}
-use Rattle.stp_strength.specs.Failures.{all_pairs_pass, stay_apart, stay_calm, all_calm, is_fed, is_unsettled, sublists, others, of_steps, is_kept, is_sound, Gap, NotApart, NotCalm, NotFed, NotKept, NotReached, failing, failing_durations, GapsFail}
-use Rattle.stp_strength.specs.Checks.{TestsTellFacts, TestsShowGaps, CheckDecides, StrongOrFails, FailuresMeanWeakness}
+use Rattle.stp_window.specs.Windows.{Point, OpenSpan, WindowBox, entry_at, IsProper, ArePartedIfOne, IsOwn, Meet, is_unsettled}
+use Rattle.stp_window.specs.States.{left_by, came_by, state_at, at_last}
+use Rattle.stp_strength.specs.Facts.{StayApart, StayCalm, IsFedAlways, IsKeptAt, lows, IsSound}
+use Rattle.stp_strength.specs.Failures.{all_pairs_pass, stay_apart, stay_calm, all_calm, is_fed, sublists, others, of_steps, is_kept, is_sound, Gap, NotApart, NotCalm, NotFed, NotKept, NotReached}
+use Rattle.stp_strength.specs.Checks.{TestsTellFacts, TestsShowGaps}
 use Rattle.stp_strength.proofs.Apart.{AreCalm}
-use Rattle.stp_strength.proofs.Sound.{latest_is_choice, nearest_is_choice, corner_is_choice, apart_or_fails, calm_or_fails, fed_or_fails, kept_or_fails, reached_or_fails}
 use Rattle.stp_strength.proofs.Sublists.{has_member, member_had, kept_is_choice, choice_within}
-use Rattle.stp_strength.proofs.Proper.{windows_proper}
-use Rattle.stp_strength.proofs.Durations.{durations_of_choice}
-use Rattle.stp_strength.proofs.Strong.{strong_exactly_where_sound, strong_on_grid}
 
 -- ---- tests of lists
 
@@ -42,7 +38,7 @@ all_pairs_do test xs h = all_pass (λ z. list_all (test z) xs) xs (λ x i. all_p
 
 -- ---- tests of pairs
 
-apart_test : (s o : OpenSpan) → StayApart s o → stay_apart s o ≡ true
+pub apart_test : (s o : OpenSpan) → StayApart s o → stay_apart s o ≡ true
 apart_test s o h = by_numbers s.end.step o.end.step s.key o.key s.end.high o.from o.end.high s.from h
   where
     by_numbers : (m n k l a b c d : ℕ) → (m < n → k ≡ l → (a < b) ⊎ (c < d)) → (not (nat_lt m n && k == l) || (nat_lt a b || nat_lt c d)) ≡ true
@@ -229,7 +225,7 @@ shown b h = apart_or_gap b (all_pairs_pass stay_apart b.spans) refl h
     apart_or_gap b true e h = calm_or_gap b (all_calm b) refl h
     apart_or_gap b false e h = let r = failing_pair stay_apart b.spans e in NotApart r.0 r.1 r.2 r.3 r.4
 
-sound_facts : (b : WindowBox) → IsProper b → is_sound b ≡ true → IsSound b
+pub sound_facts : (b : WindowBox) → IsProper b → is_sound b ≡ true → IsSound b
 sound_facts b proper h =
     let kept_and = list_all (λ s. list_all (is_kept b s) (lows b)) b.spans in
     let first = and_right (all_pairs_pass stay_apart b.spans) (all_calm b && (list_all (is_fed b) b.points && (kept_and && b.goal (at_last b)))) h in
@@ -248,44 +244,3 @@ tests_tell_facts b proper = (sound_facts b proper, sound_test b)
 
 pub tests_show_gaps : TestsShowGaps
 tests_show_gaps b proper h = shown b h
-
--- ---- a gap's moments and durations fail
-
-missing : (b : Bool) → b ≡ true → b ≡ false → ⊥
-missing b t f = true≢false (sym t ∙ f)
-
-failing_choice : (b : WindowBox) → IsProper b → (g : Gap b) → IsChoice b (failing b g)
-failing_choice b proper (NotApart s o i j e) = latest_is_choice b proper
-failing_choice b proper (NotCalm p q i j e) = nearest_is_choice b proper (max p.low q.low)
-failing_choice b proper (NotFed p i calm e) = latest_is_choice b proper
-failing_choice b proper (NotKept s t chosen i calm from to late e) = corner_is_choice b proper chosen
-failing_choice b proper (NotReached calm e) = latest_is_choice b proper
-
-failing_run : (b : WindowBox) → IsProper b → (g : Gap b) → Executes (run_when b (failing b g)) → ⊥
-failing_run b proper (NotApart s o i j e) x = missing (stay_apart s o) (apart_test s o (apart_or_fails b x s o i j)) e
-failing_run b proper (NotCalm p q i j e) x = missing (stay_calm p q) (calm_test p q (calm_or_fails b proper p q i j x)) e
-failing_run b proper (NotFed p i calm e) x = missing (is_fed b p) (fed_or_fails b proper (calm_facts b calm) x p i) e
-failing_run b proper (NotKept s t chosen i calm from to late e) x = missing (s.over (state_at b t chosen)) (kept_or_fails b proper (calm_facts b calm) s i t chosen x from to late) e
-failing_run b proper (NotReached calm e) x = missing (b.goal (at_last b)) (reached_or_fails b proper (calm_facts b calm) x) e
-
-pub gaps_fail : GapsFail
-gaps_fail box w gap =
-    let proper = windows_proper box w in
-    let d = durations_of_choice box w (failing (windows_of box) gap) (failing_choice (windows_of box) proper gap) in
-    record { vector = d.vector; fails = λ x. failing_run (windows_of box) proper gap (subst Executes d.same x) }
-
--- ---- the plain check
-
-pub check_decides : CheckDecides
-check_decides box w =
-    let proper = windows_proper box w in
-    (λ h. (strong_exactly_where_sound box w).1 (sound_facts (windows_of box) proper h), λ strong. sound_test (windows_of box) ((strong_exactly_where_sound box w).0 strong))
-
-pub strong_or_fails : StrongOrFails
-strong_or_fails box w = elim (cases_Bool (is_sound (windows_of box))) [
-  | inl h ↦ inl ((check_decides box w).0 h)
-  | inr h ↦ let gap = shown (windows_of box) h in inr (failing_durations box gap, gaps_fail box w gap)
-]
-
-pub failures_mean_weakness : FailuresMeanWeakness
-failures_mean_weakness box ds f strong = f.fails (strong_on_grid box strong ds f.vector)

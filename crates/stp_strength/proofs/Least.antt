@@ -10,13 +10,13 @@ use Rattle.std.proofs.lemmas.List.Elements.{Contains-append_cases, Contains-appe
 use Rattle.stp_happen.specs.declared.fault.Fault.{Fault}
 use Rattle.stp_happen.specs.Plain.{Executes}
 use Rattle.stp_happen.specs.Faults.{faults_of}
-use Rattle.stp_happen.specs.Boxes.{PlainStep, PlainBox, run_under, IsWithin, IsVector}
+use Rattle.stp_happen.specs.Boxes.{PlainBox, run_under, IsWithin, IsVector, PlainOwner}
 use Rattle.stp_happen.specs.LeastFailure.{IsFailure, IsLeastFailure}
 use Rattle.stp_happen.proofs.Members.{here, there, member_cases, member_nil, member_map, mapped_member, kept_member, member_of_kept}
 use Rattle.stp_happen.proofs.NoFault.{executes, none_if_executes}
 use Rattle.stp_strength.specs.Checks.{StrongOrLeastFailure, LeastFailureExactlyWhereWeak}
-use Rattle.stp_strength.proofs.Tops.{NonePasses}
-use Rattle.stp_strength.proofs.Gaps.{strong_or_fails, failures_mean_weakness}
+use Rattle.stp_happen.proofs.Tops.{NonePasses}
+use Rattle.stp_strength.proofs.BoxGaps.{strong_or_fails, failures_mean_weakness}
 
 -- ---- whether a run executes is a test
 
@@ -57,7 +57,7 @@ in_up_to (suc n) d l = by_order n d l (in_up_to n d)
         first_or : (n d : ℕ) → d ≤ suc n → (suc n ≡ d) ⊎ (d ≤ n)
         first_or n d l = grind arith
 
-abbrev is_duration : PlainStep → ℕ → Bool
+abbrev is_duration : PlainOwner → ℕ → Bool
 is_duration s d = nat_le s.low (s.start + d) && nat_le (s.start + d) s.high
 
 abbrev with_first : List ℕ → List (List ℕ) → List (List ℕ)
@@ -78,21 +78,21 @@ of_with_first (x ∷ xs) rests v i = elim (Contains-append_cases (map (λ l. x �
   | inr j ↦ let r = of_with_first xs rests v j in (r.0, r.1, there x xs r.0 r.2, r.3, r.4)
 ]
 
-abbrev vectors : List PlainStep → List (List ℕ)
+abbrev vectors : List PlainOwner → List (List ℕ)
 vectors [] = [] ∷ []
 vectors (s ∷ ss) = if s.uncertain then with_first (filter (is_duration s) (up_to s.high)) (vectors ss) else vectors ss
 
-is_vector : (steps : List PlainStep) (ds : List ℕ) → Contains (vectors steps) ds → IsVector steps ds
+is_vector : (owners : List PlainOwner) (ds : List ℕ) → Contains (vectors owners) ds → IsVector owners ds
 is_vector [] ds i = elim (member_cases [] [] ds i) [ inl e ↦ sym e | inr j ↦ absurd (member_nil ds j) ]
 is_vector (s ∷ ss) ds i = by_kind s ss ds s.uncertain refl i (is_vector ss)
   where
-    within : (s : PlainStep) (d : ℕ) → is_duration s d ≡ true → (s.low ≤ s.start + d) × (s.start + d ≤ s.high)
+    within : (s : PlainOwner) (d : ℕ) → is_duration s d ≡ true → (s.low ≤ s.start + d) × (s.start + d ≤ s.high)
     within s d h = by_numbers s.low (s.start + d) s.high h
       where
         by_numbers : (a b c : ℕ) → (nat_le a b && nat_le b c) ≡ true → (a ≤ b) × (b ≤ c)
         by_numbers a b c h = grind (arith, nat_tests)
 
-    by_kind : (s : PlainStep) (ss : List PlainStep) (ds : List ℕ) (u : Bool) → s.uncertain ≡ u → Contains (cond u (with_first (filter (is_duration s) (up_to s.high)) (vectors ss)) (vectors ss)) ds →
+    by_kind : (s : PlainOwner) (ss : List PlainOwner) (ds : List ℕ) (u : Bool) → s.uncertain ≡ u → Contains (cond u (with_first (filter (is_duration s) (up_to s.high)) (vectors ss)) (vectors ss)) ds →
         ((l : List ℕ) → Contains (vectors ss) l → IsVector ss l) → IsVector (s ∷ ss) ds
     by_kind s ss ds true e i more =
         let r = of_with_first (filter (is_duration s) (up_to s.high)) (vectors ss) ds i in
@@ -100,17 +100,17 @@ is_vector (s ∷ ss) ds i = by_kind s ss ds s.uncertain refl i (is_vector ss)
         subst (IsVector (s ∷ ss)) r.4 (rw e (λ _. (omega arith, k.0, k.1), more r.1 r.3))
     by_kind s ss ds false e i more = rw e (λ u. absurd (true≢false (sym u)), more ds i)
 
-vector_there : (steps : List PlainStep) (ds : List ℕ) → IsVector steps ds → Contains (vectors steps) ds
+vector_there : (owners : List PlainOwner) (ds : List ℕ) → IsVector owners ds → Contains (vectors owners) ds
 vector_there [] ds v = subst (Contains ([] ∷ [])) (sym v) (here [] [])
 vector_there (s ∷ ss) ds v = by_kind s ss ds s.uncertain refl v.0 v.1 (vector_there ss)
   where
-    duration : (s : PlainStep) (d : ℕ) → s.low ≤ s.start + d → s.start + d ≤ s.high → is_duration s d ≡ true
+    duration : (s : PlainOwner) (d : ℕ) → s.low ≤ s.start + d → s.start + d ≤ s.high → is_duration s d ≡ true
     duration s d l k = by_numbers s.low (s.start + d) s.high l k
       where
         by_numbers : (a b c : ℕ) → a ≤ b → b ≤ c → (nat_le a b && nat_le b c) ≡ true
         by_numbers a b c l k = grind (arith, nat_tests)
 
-    uncertain_there : (s : PlainStep) (ss : List PlainStep) (ds : List ℕ) → (0 < length ds) × (s.low ≤ s.start + slice_index ds 0) × (s.start + slice_index ds 0 ≤ s.high) → Contains (vectors ss) (drop 1 ds) →
+    uncertain_there : (s : PlainOwner) (ss : List PlainOwner) (ds : List ℕ) → (0 < length ds) × (s.low ≤ s.start + slice_index ds 0) × (s.start + slice_index ds 0 ≤ s.high) → Contains (vectors ss) (drop 1 ds) →
         Contains (with_first (filter (is_duration s) (up_to s.high)) (vectors ss)) ds
     uncertain_there s ss [] w i = absurd (omega (arith, w.0))
     uncertain_there s ss (d ∷ ds) w i =
@@ -119,7 +119,7 @@ vector_there (s ∷ ss) ds v = by_kind s ss ds s.uncertain refl v.0 v.1 (vector_
         in_with_first (filter (is_duration s) (up_to s.high)) (vectors ss) d ds
         (kept_member (is_duration s) (up_to s.high) d (in_up_to s.high d (omega arith)) (duration s d low high)) i
 
-    by_kind : (s : PlainStep) (ss : List PlainStep) (ds : List ℕ) (u : Bool) → s.uncertain ≡ u → IsWithin s ds → IsVector ss (cond s.uncertain (drop 1 ds) ds) → ((l : List ℕ) → IsVector ss l → Contains (vectors ss) l) →
+    by_kind : (s : PlainOwner) (ss : List PlainOwner) (ds : List ℕ) (u : Bool) → s.uncertain ≡ u → IsWithin s ds → IsVector ss (cond s.uncertain (drop 1 ds) ds) → ((l : List ℕ) → IsVector ss l → Contains (vectors ss) l) →
         Contains (cond s.uncertain (with_first (filter (is_duration s) (up_to s.high)) (vectors ss)) (vectors ss)) ds
     by_kind s ss ds true e w v more = subst (λ (u : Bool). Contains (cond u (with_first (filter (is_duration s) (up_to s.high)) (vectors ss)) (vectors ss)) ds) (sym e)
         (uncertain_there s ss ds (w e) (more (drop 1 ds) (subst (λ (u : Bool). IsVector ss (cond u (drop 1 ds) ds)) e v)))
@@ -192,13 +192,13 @@ fails_tested : (box : PlainBox) (ds : List ℕ) → (Executes (run_under box ds)
 fails_tested box ds h = elim (cases_Bool (fails_test box ds)) [ inl t ↦ t | inr f ↦ absurd (h (executes_told box ds f)) ]
 
 pub least_of : (box : PlainBox) (ds : List ℕ) → IsFailure box ds → (m : List ℕ) × IsLeastFailure box m
-least_of box ds f = elim (first_passing (fails_test box) (vectors box.steps)) [
-  | inl none ↦ absurd (none ds (vector_there box.steps ds f.vector) (fails_tested box ds f.fails))
+least_of box ds f = elim (first_passing (fails_test box) (vectors box.owners)) [
+  | inl none ↦ absurd (none ds (vector_there box.owners ds f.vector) (fails_tested box ds f.fails))
   | inr r ↦ (
     r.0,
     record {
-      failure = record { vector = is_vector box.steps r.0 r.1.there; fails = fails_told box r.0 r.1.passes };
-      least = λ other g. r.1.first other (vector_there box.steps other g.vector) (fails_tested box other g.fails);
+      failure = record { vector = is_vector box.owners r.0 r.1.there; fails = fails_told box r.0 r.1.passes };
+      least = λ other g. r.1.first other (vector_there box.owners other g.vector) (fails_tested box other g.fails);
     },
   )
 ]

@@ -1,22 +1,18 @@
-pub mod Tops
-pub mod LatestWay
 pub mod Apart
 pub mod Certainty
 pub mod Sound
-pub mod Proper
-pub mod Durations
 pub mod Moved
+pub mod Durations
 pub mod Strong
-pub mod WellMade
 pub mod Sublists
 pub mod Gaps
+pub mod BoxGaps
 pub mod Least
 pub mod Narrow
 pub mod Parts
 pub mod Splits
-pub mod Loops
-pub mod StepLoops
+pub mod BoxLaws
 pub mod Values
+pub mod Loops
 pub mod Checked
 pub mod Vectors
-mod WorkedSteps

@@ -8,12 +8,13 @@ use Rattle.stp_happen.specs.Plain.{state_after}
 use Rattle.stp_happen.specs.Moves.{KeepsOrder}
 use Rattle.stp_happen.proofs.Members.{each_of, each_pair, member_map, all_mapped, all_mapped_pairs, kept_alike}
 use Rattle.stp_happen.proofs.StateLists.{moved_le, moved_lt}
-use Rattle.stp_strength.specs.Windows.{Point, OpenSpan, WindowBox, IsProper, entry_at}
-use Rattle.stp_strength.specs.Facts.{left_by, certain_before, came_by, state_at, StayApart, StayCalm, IsFedAlways, IsKeptAt, lows, IsSound}
+use Rattle.stp_window.specs.Windows.{Point, OpenSpan, WindowBox, IsProper, entry_at}
+use Rattle.stp_window.specs.States.{left_by, certain_before, came_by, state_at}
+use Rattle.stp_strength.specs.Facts.{StayApart, StayCalm, IsFedAlways, IsKeptAt, lows, IsSound}
 use Rattle.stp_strength.specs.Moved.{moved_point, moved_open_span, moved_windows, window_bounds, MovedWindowsAreSound}
-use Rattle.stp_strength.proofs.LatestWay.{AgreeOrFollow, placed_alike}
+use Rattle.stp_window.proofs.LatestPoints.{AgreeOrFollow, placed_alike}
 use Rattle.stp_strength.proofs.Apart.{AreCalm, agree_or_apart}
-use Rattle.stp_strength.proofs.Sound.{ordered}
+use Rattle.stp_window.proofs.LastWay.{ordered}
 
 -- ---- which bounds there are
 

@@ -1,23 +1,20 @@
 -- The state at a moment by parts.
-use Rattle.std.proofs.Common.{◌≡◌, ℕ, ◌<◌, ◌≤◌, nat_lt, nat_le, Bool, true, false, ◌&&◌, ◌||◌, cond, Contains, ◌⊎◌, inl, inr, refl, sym, ◌∙◌, arith, true≢false}
+use Rattle.std.proofs.Common.{◌≡◌, ℕ, ◌<◌, ◌≤◌, nat_lt, nat_le, Bool, true, false, ◌&&◌, ◌||◌, cond, Contains, ◌⊎◌, inl, inr, sym, ◌∙◌, arith, true≢false, refl}
 use Rattle.std.specs.List.{list_any}
-use Rattle.std.proofs.lemmas.Bool.{cases_Bool, leb-true, le-leb}
+use Rattle.std.proofs.lemmas.Bool.{cases_Bool}
 use Rattle.std.proofs.lemmas.Bool.Decides.{nat_tests}
 use Rattle.stp_cond.specs.Atoms.{has}
-use Rattle.stp_happen.proofs.Members.{each_pair, all_pairs, same_tests, and_left, and_right, and_both, passing_member, any_passes}
-use Rattle.stp_strength.specs.Windows.{Point, WindowBox, IsProper, Meet}
-use Rattle.stp_strength.specs.Facts.{certain, came_by, state_at}
-use Rattle.stp_strength.specs.Failures.{is_unsettled}
-use Rattle.stp_strength.specs.Parts.{sets, DoNotClash, NoneClash, CalmBoxesDoNotClash, CertainIsTheLastWay, CertainIsInitial, StatesGoByParts}
-use Rattle.stp_strength.proofs.LatestWay.{AgreeOrApart, AgreeOrFollow, last_placed, none_placed, placed_alike}
-use Rattle.stp_strength.proofs.Apart.{AreWindowsApart, meet_or_apart, agree_or_apart}
-use Rattle.stp_strength.proofs.Sound.{ordered}
+use Rattle.stp_happen.proofs.Members.{all_pairs, same_tests, and_left, and_right, and_both, passing_member, any_passes}
+use Rattle.stp_window.specs.Windows.{Point, WindowBox, IsProper, Meet, is_unsettled}
+use Rattle.stp_window.specs.States.{certain, came_by, state_at}
+use Rattle.stp_window.specs.Certain.{sets, DoNotClash, NoneClash}
+use Rattle.stp_window.proofs.LatestPoints.{AgreeOrApart, last_placed, placed_alike}
+use Rattle.stp_window.proofs.LastWay.{ordered, agree_by_clash, in_order}
+use Rattle.stp_strength.specs.Parts.{CalmBoxesDoNotClash, StatesGoByParts}
+use Rattle.stp_strength.proofs.Apart.{agree_or_apart}
 use Rattle.stp_strength.proofs.Gaps.{calm_facts, unsettled_told}
 
 -- ---- clashes
-
-adds_of : (b c : Bool) → b ≡ false → (b || c) ≡ true → c ≡ true
-adds_of b c e h = grind arith
 
 sets_by_adding : (p : Point) (a : ℕ) → has p.event.adds a ≡ true → sets p a ≡ true
 sets_by_adding p a h = by (has p.event.adds a) (has p.event.dels a) h
@@ -39,39 +36,6 @@ calm_boxes_do_not_clash b proper calm a = all_pairs (DoNotClash a) b.points b.po
     clash a p q adds keeps meet (inl e) = true≢false (sym adds ∙ (e ∙ keeps))
     clash a p q adds keeps meet (inr (inl l)) = omega arith
     clash a p q adds keeps meet (inr (inr l)) = omega arith
-
--- two writers of an atom of which no opposite writers meet
-pub agree_by_clash : (b : WindowBox) (a : ℕ) → NoneClash b a → (p q : Point) → Contains b.points p → Contains b.points q → sets p a ≡ true → sets q a ≡ true → AgreeOrApart a p q
-agree_by_clash b a none p q i j s r = by_ways b a none p q i j s r (meet_or_apart p q) (has p.event.adds a) refl (has q.event.adds a) refl
-  where
-    by_ways : (b : WindowBox) (a : ℕ) → NoneClash b a → (p q : Point) → Contains b.points p → Contains b.points q → sets p a ≡ true → sets q a ≡ true → Meet p q ⊎ AreWindowsApart p q →
-        (x : Bool) → has p.event.adds a ≡ x → (y : Bool) → has q.event.adds a ≡ y → AgreeOrApart a p q
-    by_ways b a none p q i j s r (inr apart) x e y f = inr apart
-    by_ways b a none p q i j s r (inl meet) true e true f = inl (e ∙ sym f)
-    by_ways b a none p q i j s r (inl meet) false e false f = inl (e ∙ sym f)
-    by_ways b a none p q i j s r (inl meet) true e false f = absurd (each_pair (DoNotClash a) b.points b.points none p q i j e f (adds_of (has q.event.adds a) (has q.event.dels a) f r) meet)
-    by_ways b a none p q i j s r (inl meet) false e true f = absurd (each_pair (DoNotClash a) b.points b.points none q p j i f e (adds_of (has p.event.adds a) (has p.event.dels a) e s) (meet.1, meet.0))
-
--- by the ends of their windows
-in_order : (a : ℕ) (p q : Point) → p.low ≤ p.high → q.low ≤ q.high → AgreeOrApart a p q → AgreeOrFollow (λ x. x.high) (λ x. x.high) a p q
-in_order a p q l k (inl e) = inl e
-in_order a p q l k (inr (inl h)) = inr (inl (omega arith, omega arith))
-in_order a p q l k (inr (inr h)) = inr (inr (omega arith, omega arith))
-
--- ---- what is certain
-
-last_or_same : (a : ℕ) (p q : Point) → p.low ≤ p.high → q.low ≤ q.high → q.high ≤ p.high → AgreeOrApart a q p → (has q.event.adds a ≡ has p.event.adds a) ⊎ (q.high < p.high)
-last_or_same a p q l k h (inl e) = inl e
-last_or_same a p q l k h (inr (inl x)) = inr (omega arith)
-last_or_same a p q l k h (inr (inr x)) = absurd (omega arith)
-
-pub certain_is_the_last_way : CertainIsTheLastWay
-certain_is_the_last_way b proper a t none p w =
-    last_placed b.initial b.points (λ q. q.high) (λ q. nat_le q.high t) a p w.there (le-leb p.high t w.ended) w.writes (λ q i h s.
-    last_or_same a p q (ordered b proper p w.there) (ordered b proper q i) (w.last q i s (leb-true q.high t h)) (agree_by_clash b a none q p i w.there s w.writes))
-
-pub certain_is_initial : CertainIsInitial
-certain_is_initial b a t none = none_placed b.initial b.points (λ q. q.high) (λ q. nat_le q.high t) a (λ p i h. none p i (and_right (nat_le p.high t) (sets p a) h) (leb-true p.high t (and_left (nat_le p.high t) (sets p a) h)))
 
 -- ---- what is unsettled
 

@@ -2,23 +2,21 @@
 use Rattle.std.proofs.Common.{◌≡◌, ℕ, ◌<◌, ◌≤◌, nat_le, Bool, true, false, cond, max, All, Contains, ◌⊎◌, inl, inr, ap, sym, ◌∙◌, subst, arith}
 use Rattle.std.proofs.lemmas.Bool.{leb-true, le-leb, lt-leb}
 use Rattle.std.proofs.lemmas.Bool.Decides.{nat_tests}
+use Rattle.stp_cond.specs.Atoms.{interfere}
 use Rattle.stp_happen.specs.Plain.{Executes, AreCalm, IsFed, IsKept, AreApart, after}
 use Rattle.stp_happen.proofs.Members.{each_of, each_pair, all_of, all_pairs, member_map, all_mapped, of_mapped, all_mapped_pairs, of_mapped_pairs}
-use Rattle.stp_strength.specs.Windows.{Point, OpenSpan, WindowBox, run_when, entry_at, span_at, IsInWindow, IsChoice, IsProper, IsStarted, Meet}
-use Rattle.stp_strength.specs.Facts.{state_at, at_last, StayApart, StayCalm, IsFedAlways, IsKeptAt, lows, IsSound}
+use Rattle.stp_window.specs.Windows.{Point, OpenSpan, WindowBox, run_when, entry_at, span_at, IsInWindow, IsChoice, IsProper, IsStarted, Meet}
+use Rattle.stp_window.specs.States.{state_at, at_last}
+use Rattle.stp_strength.specs.Facts.{StayApart, StayCalm, IsFedAlways, IsKeptAt, lows, IsSound}
 use Rattle.stp_strength.specs.Choices.{latest, corner, nearest}
 use Rattle.stp_strength.specs.WindowLaws.{ExecutesAlways, ExecutesAlwaysExactlyWhereSound, KeptAtEveryMoment}
-use Rattle.stp_strength.proofs.Tops.{IsTop, NonePasses, top}
-use Rattle.stp_strength.proofs.Apart.{AreCalm as AreCalmPoints}
+use Rattle.stp_happen.proofs.Tops.{IsTop, NonePasses, top}
+use Rattle.stp_happen.proofs.Interfering.{interfere_turned}
+use Rattle.stp_window.proofs.LastWay.{ordered, started}
+use Rattle.stp_strength.proofs.Apart.{AreCalm as AreCalmPoints, three_ways}
 use Rattle.stp_strength.proofs.Certainty.{after_is_state, end_is_last, before_is_certain, came_in_run, came_in_corner}
 
 -- ---- parts of what is known
-
-pub ordered : (b : WindowBox) → IsProper b → (p : Point) → Contains b.points p → p.low ≤ p.high
-ordered b proper p i = each_of (λ q. q.low ≤ q.high) b.points proper.ordered p i
-
-pub started : (b : WindowBox) → IsProper b → (s : OpenSpan) → Contains b.spans s → IsStarted b.points s
-started b proper s i = each_of (IsStarted b.points) b.spans proper.started s i
 
 in_window : (b : WindowBox) (v : Point → ℕ) → IsChoice b v → (p : Point) → Contains b.points p → IsInWindow v p
 in_window b v choice p i = each_of (IsInWindow v) b.points choice.0 p i
@@ -54,16 +52,36 @@ apart_in_run v s o in_s in_o (inr l) = inr (omega arith)
 common_moment : (v : Point → ℕ) (p q : Point) → IsInWindow v p → IsInWindow v q → v p ≡ v q → Meet p q
 common_moment v p q in_p in_q e = (omega arith, omega arith)
 
+-- points of two different steps are calm, and spans apart, whichever of the two has the lesser number
+calm_either : (b : WindowBox) → AreCalmPoints b → (p q : Point) → Contains b.points p → Contains b.points q → (p.step ≡ q.step → ⊥) → Meet p q → interfere p.event q.event ≡ false
+calm_either b calm p q i j other meet = elim (three_ways p.step q.step) [
+  | inl l ↦ each_pair StayCalm b.points b.points calm p q i j l meet
+  | inr r ↦ elim r [ inl l ↦ interfere_turned p.event q.event ∙ each_pair StayCalm b.points b.points calm q p j i l (meet.1, meet.0) | inr e ↦ absurd (other e) ]
+]
+
+turned : {X Y : Type 0} → X ⊎ Y → Y ⊎ X
+turned (inl x) = inr x
+turned (inr y) = inl y
+
+apart_either : (b : WindowBox) → All (λ s. All (StayApart s) b.spans) b.spans → (s o : OpenSpan) → Contains b.spans s → Contains b.spans o → (s.end.step ≡ o.end.step → ⊥) → s.key ≡ o.key → (s.end.high < o.from) ⊎ (o.end.high < s.from)
+apart_either b apart s o i j other k = elim (three_ways s.end.step o.end.step) [
+  | inl l ↦ each_pair StayApart b.spans b.spans apart s o i j l k
+  | inr r ↦ elim r [ inl l ↦ turned (each_pair StayApart b.spans b.spans apart o s j i l (sym k)) | inr e ↦ absurd (other e) ]
+]
+
+less_differs : (m n : ℕ) → m < n → m ≡ n → ⊥
+less_differs m n l e = omega arith
+
 pub sound_executes : (b : WindowBox) → IsProper b → IsSound b → ExecutesAlways b
 sound_executes b proper sound v choice = record {
   calm = all_mapped_pairs (entry_at v) (entry_at v) AreCalm b.points b.points
-      (λ p q i j l e. each_pair StayCalm b.points b.points sound.calm p q i j l (common_moment v p q (in_window b v choice p i) (in_window b v choice q j) e));
+      (λ p q i j l e. calm_either b sound.calm p q i j l (common_moment v p q (in_window b v choice p i) (in_window b v choice q j) e));
   fed = all_mapped (entry_at v) (IsFed (run_when b v)) b.points
       (λ p i. before_is_certain b proper sound.calm v choice p i ∙ each_of (IsFedAlways b) b.points sound.fed p i);
   kept = all_mapped_pairs (entry_at v) (span_at v) (IsKept (run_when b v)) b.points b.spans
       (λ p s i j from to. kept_anywhere b proper sound.calm sound.kept v choice s j (v p) from to);
   apart = all_mapped_pairs (span_at v) (span_at v) AreApart b.spans b.spans
-      (λ s o i j l k. apart_in_run v s o (end_in_window b v choice s i) (end_in_window b v choice o j) (each_pair StayApart b.spans b.spans sound.apart s o i j l k));
+      (λ s o i j l k. apart_in_run v s o (end_in_window b v choice s i) (end_in_window b v choice o j) (apart_either b sound.apart s o i j l k));
   reached = ap b.goal (end_is_last b proper sound.calm v choice) ∙ sound.reached;
 }
 
@@ -91,7 +109,7 @@ corner_is_choice b proper chosen = (all_of (IsInWindow (corner chosen)) b.points
 -- ---- what executes at them has the facts
 
 pub apart_or_fails : (b : WindowBox) → Executes (run_when b latest) → (s o : OpenSpan) → Contains b.spans s → Contains b.spans o → StayApart s o
-apart_or_fails b x s o i j = of_mapped_pairs (span_at latest) (span_at latest) AreApart b.spans b.spans x.apart s o i j
+apart_or_fails b x s o i j l k = of_mapped_pairs (span_at latest) (span_at latest) AreApart b.spans b.spans x.apart s o i j (less_differs s.end.step o.end.step l) k
 
 at_the_later_low : (p q : Point) → p.low ≤ p.high → q.low ≤ q.high → Meet p q → nearest (max p.low q.low) p ≡ nearest (max p.low q.low) q
 at_the_later_low p q l k meet = omega arith
@@ -99,7 +117,7 @@ at_the_later_low p q l k meet = omega arith
 pub calm_or_fails : (b : WindowBox) → IsProper b → (p q : Point) → Contains b.points p → Contains b.points q → Executes (run_when b (nearest (max p.low q.low))) → StayCalm p q
 calm_or_fails b proper p q i j x l meet =
     let v = nearest (max p.low q.low) in
-    of_mapped_pairs (entry_at v) (entry_at v) AreCalm b.points b.points x.calm p q i j l (at_the_later_low p q (ordered b proper p i) (ordered b proper q j) meet)
+    of_mapped_pairs (entry_at v) (entry_at v) AreCalm b.points b.points x.calm p q i j (less_differs p.step q.step l) (at_the_later_low p q (ordered b proper p i) (ordered b proper q j) meet)
 
 pub fed_or_fails : (b : WindowBox) → IsProper b → AreCalmPoints b → Executes (run_when b latest) → (p : Point) → Contains b.points p → IsFedAlways b p
 fed_or_fails b proper calm x p i =

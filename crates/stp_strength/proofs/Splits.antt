@@ -5,22 +5,19 @@ use Rattle.std.specs.List.{list_any, list_all}
 use Rattle.std.proofs.lemmas.Bool.{cases_Bool}
 use Rattle.std.proofs.lemmas.List.{map-append}
 use Rattle.std.proofs.lemmas.List.Folds.{list_all-append}
-use Rattle.stp_cond.specs.Atoms.{has}
+use Rattle.stp_cond.specs.Atoms.{changed_by, has}
 use Rattle.stp_happen.proofs.Members.{here, there, member_cases, member_nil, member_map, mapped_member, each_pair, same_tests, and_left, and_right, and_both, passing_member, any_passes, each_passes, all_pass, member_of_kept}
-use Rattle.stp_strength.specs.Windows.{Point, OpenSpan, WindowBox, IsProper, ArePartedIfOne}
-use Rattle.stp_strength.specs.Facts.{certain, state_at}
-use Rattle.stp_strength.specs.Failures.{is_unsettled, sublists, others, of_steps, all_calm}
-use Rattle.stp_strength.specs.Parts.{sets, NoneClash, by_parts}
-use Rattle.stp_strength.specs.Splitting.{apply, passes_all, other_points, SplittingAgrees}
+use Rattle.stp_window.specs.Windows.{Point, OpenSpan, WindowBox, IsProper, ArePartedIfOne, is_unsettled}
+use Rattle.stp_window.specs.States.{certain, state_at}
+use Rattle.stp_strength.specs.Failures.{sublists, others, of_steps, all_calm}
+use Rattle.stp_window.specs.Certain.{sets, NoneClash}
+use Rattle.stp_strength.specs.Parts.{by_parts}
+use Rattle.stp_strength.specs.Splitting.{applied, passes_all, other_points, SplittingAgrees}
 use Rattle.stp_strength.proofs.Sublists.{member_had, has_member, choice_within}
 use Rattle.stp_strength.proofs.Gaps.{meet_at, unsettled_told}
 use Rattle.stp_strength.proofs.Parts.{calm_boxes_do_not_clash, unsettled_agree, is_chosen_writer, is_chosen_adder, adder_of_writer, states_go_by_parts}
 
 -- ---- events one after another
-
-abbrev pub applied : List Point → (ℕ → Bool) → ℕ → Bool
-applied [] state = state
-applied (p ∷ ps) state = applied ps (apply p.event state)
 
 passes_told : (over : (ℕ → Bool) → Bool) (ps : List Point) (state : ℕ → Bool) → passes_all over ps state ≡ list_all (λ qs. over (applied qs state)) (sublists ps)
 passes_told over [] state = sym (and_true (over state))
@@ -29,14 +26,14 @@ passes_told over [] state = sym (and_true (over state))
     and_true true = refl
     and_true false = refl
 passes_told over (p ∷ ps) state =
-    ap₂ (λ b c. b && c) (passes_told over ps state) (passes_told over ps (apply p.event state) ∙ sym (all_mapped_pass (λ qs. over (applied qs state)) p (sublists ps)))
+    ap₂ (λ b c. b && c) (passes_told over ps state) (passes_told over ps (changed_by p.event state) ∙ sym (all_mapped_pass (λ qs. over (applied qs state)) p (sublists ps)))
     ∙ sym (list_all-append (λ qs. over (applied qs state)) (sublists ps) (map (λ l. p ∷ l) (sublists ps)))
   where
     all_mapped_pass : (test : List Point → Bool) (p : Point) (ls : List (List Point)) → list_all test (map (λ l. p ∷ l) ls) ≡ list_all (λ l. test (p ∷ l)) ls
     all_mapped_pass test p [] = refl
     all_mapped_pass test p (l ∷ ls) = ap (λ b. test (p ∷ l) && b) (all_mapped_pass test p ls)
 
-unwritten : (p : Point) (state : ℕ → Bool) (a : ℕ) → sets p a ≡ false → apply p.event state a ≡ state a
+pub unwritten : (p : Point) (state : ℕ → Bool) (a : ℕ) → sets p a ≡ false → changed_by p.event state a ≡ state a
 unwritten p state a h = by (has p.event.adds a) (has p.event.dels a) (state a) h
   where
     by : (b c d : Bool) → (b || c) ≡ false → (b || (not c && d)) ≡ d
@@ -44,7 +41,7 @@ unwritten p state a h = by (has p.event.adds a) (has p.event.dels a) (state a) h
     by false true d h = absurd (true≢false h)
     by false false d h = refl
 
-written : (p : Point) (state : ℕ → Bool) (a : ℕ) → sets p a ≡ true → apply p.event state a ≡ has p.event.adds a
+pub written : (p : Point) (state : ℕ → Bool) (a : ℕ) → sets p a ≡ true → changed_by p.event state a ≡ has p.event.adds a
 written p state a h = by (has p.event.adds a) (has p.event.dels a) (state a) h
   where
     by : (b c d : Bool) → (b || c) ≡ true → (b || (not c && d)) ≡ b
@@ -54,14 +51,14 @@ written p state a h = by (has p.event.adds a) (has p.event.dels a) (state a) h
 
 none_applied : (ps : List Point) (state : ℕ → Bool) (a : ℕ) → ((p : Point) → Contains ps p → sets p a ≡ false) → applied ps state a ≡ state a
 none_applied [] state a h = refl
-none_applied (p ∷ ps) state a h = none_applied ps (apply p.event state) a (λ q i. h q (there p ps q i)) ∙ unwritten p state a (h p (here p ps))
+none_applied (p ∷ ps) state a h = none_applied ps (changed_by p.event state) a (λ q i. h q (there p ps q i)) ∙ unwritten p state a (h p (here p ps))
 
 -- where all writers of an atom write it one way, and it has it already
 stays : (ps : List Point) (state : ℕ → Bool) (a : ℕ) (way : Bool) → state a ≡ way → ((p : Point) → Contains ps p → sets p a ≡ true → has p.event.adds a ≡ way) → applied ps state a ≡ way
 stays [] state a way e h = e
-stays (p ∷ ps) state a way e h = stays ps (apply p.event state) a way (by_first p state a way e (h p (here p ps)) (cases_Bool (sets p a))) (λ q i. h q (there p ps q i))
+stays (p ∷ ps) state a way e h = stays ps (changed_by p.event state) a way (by_first p state a way e (h p (here p ps)) (cases_Bool (sets p a))) (λ q i. h q (there p ps q i))
   where
-    by_first : (p : Point) (state : ℕ → Bool) (a : ℕ) (way : Bool) → state a ≡ way → (sets p a ≡ true → has p.event.adds a ≡ way) → (sets p a ≡ true) ⊎ (sets p a ≡ false) → apply p.event state a ≡ way
+    by_first : (p : Point) (state : ℕ → Bool) (a : ℕ) (way : Bool) → state a ≡ way → (sets p a ≡ true → has p.event.adds a ≡ way) → (sets p a ≡ true) ⊎ (sets p a ≡ false) → changed_by p.event state a ≡ way
     by_first p state a way e h (inl s) = written p state a s ∙ h s
     by_first p state a way e h (inr s) = unwritten p state a s ∙ e
 
@@ -70,8 +67,8 @@ one_applied [] state a way m i s h = absurd (member_nil m i)
 one_applied (p ∷ ps) state a way m i s h = elim (member_cases p ps m i) [
   | inl e ↦
       let w : sets p a ≡ true = subst (λ (x : Point). sets x a ≡ true) (sym e) s in
-      stays ps (apply p.event state) a way (written p state a w ∙ h p (here p ps) w) (λ q j. h q (there p ps q j))
-  | inr j ↦ one_applied ps (apply p.event state) a way m j s (λ q k. h q (there p ps q k))
+      stays ps (changed_by p.event state) a way (written p state a w ∙ h p (here p ps) w) (λ q j. h q (there p ps q j))
+  | inr j ↦ one_applied ps (changed_by p.event state) a way m j s (λ q k. h q (there p ps q k))
 ]
 
 -- ---- choices out of the unsettled points

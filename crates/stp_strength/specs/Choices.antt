@@ -1,6 +1,6 @@
 -- Choices of moments at which a box fails where one of its static facts is missing.
 use Rattle.std.specs.Prelude.{ℕ, Bool, if◌then◌else◌, max, min}
-use Rattle.stp_strength.specs.Windows.{Point}
+use Rattle.stp_window.specs.Windows.{Point}
 
 -- each point as late as it can come
 abbrev pub latest : Point → ℕ

@@ -1,13 +1,11 @@
--- Where a static fact is missing, and the durations at which the box fails there.
-use Rattle.std.specs.Prelude.{◌≡◌, ℕ, ◌<◌, ◌≤◌, ◌==◌, nat_lt, nat_le, Bool, true, false, not, ◌&&◌, ◌||◌, max, List, [], ◌∷◌, ◌++◌, map, filter, All, Contains}
+-- Tests of the static facts, and where one is missing, moments at which the box fails there.
+use Rattle.std.specs.Prelude.{◌≡◌, ℕ, ◌<◌, ◌≤◌, ◌==◌, nat_lt, nat_le, Bool, true, false, not, ◌&&◌, ◌||◌, max, List, [], ◌∷◌, ◌++◌, map, filter, Contains}
 use Rattle.std.specs.List.{list_all}
 use Rattle.stp_cond.specs.Atoms.{has, interfere}
-use Rattle.stp_happen.specs.Boxes.{PlainBox}
-use Rattle.stp_happen.specs.LeastFailure.{IsFailure}
-use Rattle.stp_strength.specs.Windows.{Point, OpenSpan, WindowBox}
-use Rattle.stp_strength.specs.Facts.{certain_before, state_at, at_last, lows}
+use Rattle.stp_window.specs.Windows.{Point, OpenSpan, WindowBox, may_meet, is_unsettled}
+use Rattle.stp_window.specs.States.{certain_before, state_at, at_last}
+use Rattle.stp_strength.specs.Facts.{lows}
 use Rattle.stp_strength.specs.Choices.{latest, corner, nearest}
-use Rattle.stp_strength.specs.Steps.{IsWellMade, windows_of, durations_of}
 
 -- ---- tests of the static facts
 
@@ -17,10 +15,6 @@ all_pairs_pass test xs = list_all (λ x. list_all (test x) xs) xs
 -- two steps of one action never run at one moment
 abbrev pub stay_apart : OpenSpan → OpenSpan → Bool
 stay_apart s o = not (nat_lt s.end.step o.end.step && s.key == o.key) || (nat_lt s.end.high o.from || nat_lt o.end.high s.from)
-
--- two windows have a common moment
-abbrev pub may_meet : Point → Point → Bool
-may_meet p q = nat_le p.low q.high && nat_le q.low p.high
 
 -- two points of different steps whose windows have a common moment do not interfere
 abbrev pub stay_calm : Point → Point → Bool
@@ -32,10 +26,6 @@ all_calm b = all_pairs_pass stay_calm b.points
 -- a point finds what it needs in what is certain before its window
 abbrev pub is_fed : WindowBox → Point → Bool
 is_fed b p = p.event.cond (certain_before b p.low)
-
--- the window of a point has begun by a moment, and has not ended
-abbrev pub is_unsettled : ℕ → Point → Bool
-is_unsettled t p = nat_le p.low t && nat_lt t p.high
 
 -- every choice out of a list
 abbrev pub sublists : {X : Type 0} → List X → List (List X)
@@ -79,11 +69,3 @@ failing b (NotCalm p q i j missing) = nearest (max p.low q.low)
 failing b (NotFed p i calm missing) = latest
 failing b (NotKept s t chosen i calm from to late missing) = corner chosen
 failing b (NotReached calm missing) = latest
-
--- durations at which the box fails there
-abbrev pub failing_durations : (box : PlainBox) → Gap (windows_of box) → List ℕ
-failing_durations box gap = durations_of box (failing (windows_of box) gap)
-
--- where a fact is missing, the box fails on its own grid, at these durations
-abbrev pub GapsFail : Type 0
-GapsFail = (box : PlainBox) → All IsWellMade box.steps → (gap : Gap (windows_of box)) → IsFailure box (failing_durations box gap)

@@ -1,11 +1,12 @@
-pub mod Windows
 pub mod Facts
 pub mod Choices
 pub mod WindowLaws
-pub mod Steps
+pub mod Vectors
 pub mod Moved
+pub mod MovedBoxes
 pub mod Strength
 pub mod Failures
+pub mod BoxFailures
 pub mod Checks
 pub mod Parts
 pub mod Narrower

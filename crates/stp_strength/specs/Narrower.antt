@@ -1,22 +1,22 @@
 -- Boxes with narrower windows.
 use Rattle.std.specs.Prelude.{◌≡◌, ◌≤◌, false, List, [], ◌∷◌}
-use Rattle.stp_happen.specs.Boxes.{PlainStep, PlainBox, IsStrong}
+use Rattle.stp_happen.specs.Boxes.{PlainOwner, PlainBox, IsStrong}
 
--- the same step, but for an end window within the other's, which is the same where the step is not uncertain
-pub record IsNarrowed (s wide : PlainStep) : Type 0 where
-  pub low : wide.low ≤ s.low
-  pub high : s.high ≤ wide.high
-  pub certain : wide.uncertain ≡ false → s.high ≡ wide.high
-  pub rest : wide ≡ record s { low = wide.low; high = wide.high }
+-- the same owner, but for an end window within the other's, which is the same where the owner is not uncertain
+pub record IsNarrowed (o wide : PlainOwner) : Type 0 where
+  pub low : wide.low ≤ o.low
+  pub high : o.high ≤ wide.high
+  pub certain : wide.uncertain ≡ false → o.high ≡ wide.high
+  pub rest : wide ≡ record o { low = wide.low; high = wide.high }
 
-abbrev pub AreNarrowed : List PlainStep → List PlainStep → Type 0
+abbrev pub AreNarrowed : List PlainOwner → List PlainOwner → Type 0
 AreNarrowed [] wides = wides ≡ []
-AreNarrowed (s ∷ ss) [] = ⊥
-AreNarrowed (s ∷ ss) (wide ∷ wides) = IsNarrowed s wide × AreNarrowed ss wides
+AreNarrowed (o ∷ os) [] = ⊥
+AreNarrowed (o ∷ os) (wide ∷ wides) = IsNarrowed o wide × AreNarrowed os wides
 
 -- the same box, but for narrower windows
 pub record IsNarrowedBox (box wide : PlainBox) : Type 0 where
-  pub steps : AreNarrowed box.steps wide.steps
+  pub owners : AreNarrowed box.owners wide.owners
   pub initial : box.initial ≡ wide.initial
   pub goal : box.goal ≡ wide.goal
 

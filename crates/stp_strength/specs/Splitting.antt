@@ -1,18 +1,19 @@
 -- The test of a span at a moment by splitting: each unsettled end comes, or does not.
 use Rattle.std.specs.Prelude.{◌≡◌, ℕ, ◌==◌, nat_lt, nat_le, Bool, true, not, ◌&&◌, ◌||◌, List, [], ◌∷◌, filter}
-use Rattle.stp_cond.specs.Atoms.{PlainEvent, has}
-use Rattle.stp_strength.specs.Windows.{Point, OpenSpan, WindowBox, IsProper}
-use Rattle.stp_strength.specs.Facts.{certain}
-use Rattle.stp_strength.specs.Failures.{is_unsettled, is_kept, all_calm}
+use Rattle.stp_cond.specs.Atoms.{changed_by}
+use Rattle.stp_window.specs.Windows.{Point, OpenSpan, WindowBox, IsProper, is_unsettled}
+use Rattle.stp_window.specs.States.{certain}
+use Rattle.stp_strength.specs.Failures.{is_kept, all_calm}
 
--- what an event makes of a state
-abbrev pub apply : PlainEvent → (ℕ → Bool) → ℕ → Bool
-apply e state a = has e.adds a || (not (has e.dels a) && state a)
+-- what events make of a state, one after another
+abbrev pub applied : List Point → (ℕ → Bool) → ℕ → Bool
+applied [] state = state
+applied (p ∷ ps) state = applied ps (changed_by p.event state)
 
 -- whether a test passes whichever of these come
 abbrev pub passes_all : ((ℕ → Bool) → Bool) → List Point → (ℕ → Bool) → Bool
 passes_all over [] state = over state
-passes_all over (p ∷ ps) state = passes_all over ps state && passes_all over ps (apply p.event state)
+passes_all over (p ∷ ps) state = passes_all over ps state && passes_all over ps (changed_by p.event state)
 
 -- the unsettled points of other steps
 abbrev pub other_points : WindowBox → OpenSpan → ℕ → List Point

@@ -1,7 +1,7 @@
 -- When a box is strong, by its windows.
 use Rattle.std.specs.Prelude.{ℕ, ◌↔◌, Contains}
 use Rattle.stp_happen.specs.Plain.{Executes}
-use Rattle.stp_strength.specs.Windows.{Point, OpenSpan, WindowBox, run_when, IsChoice, IsProper}
+use Rattle.stp_window.specs.Windows.{Point, OpenSpan, WindowBox, run_when, IsChoice, IsProper}
 use Rattle.stp_strength.specs.Facts.{IsKeptAt, IsSound}
 
 -- whatever moments are chosen, the run executes

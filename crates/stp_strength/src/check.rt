@@ -4,19 +4,22 @@ ghost use Rattle.std.specs.Prelude.{◌≡◌, ℕ, ◌==◌, ◌&&◌, ◌||◌
 ghost use Rattle.std.specs.List.{list_all};
 ghost use Rattle.stp_cond.specs.Events.{IsEventInRange};
 ghost use Rattle.stp_cond.specs.Truth.{is_below, meaning_of};
-ghost use Rattle.stp_happen.specs.Boxes.{IsStrong, plain_box};
-ghost use Rattle.stp_strength.specs.Boxed.{windows_in};
-ghost use Rattle.stp_strength.specs.Facts.{state_at};
-ghost use Rattle.stp_strength.specs.Failures.{is_fed as is_fed_lem, is_kept as is_kept_lem, is_unsettled as is_unsettled_lem, is_sound as is_sound_lem, of_steps, sublists};
-ghost use Rattle.stp_strength.specs.Views.{point_of, points_of, span_of, spans_of, box_of};
+ghost use Rattle.stp_happen.specs.OwnedViews.{plain_owned};
+ghost use Rattle.stp_happen.specs.Boxes.{IsStrong};
+ghost use Rattle.stp_window.specs.Boxed.{windows_in};
+ghost use Rattle.stp_window.specs.States.{state_at};
+ghost use Rattle.stp_window.specs.Windows.{is_unsettled as is_unsettled_lem};
+ghost use Rattle.stp_strength.specs.Failures.{is_fed as is_fed_lem, is_kept as is_kept_lem, is_sound as is_sound_lem, of_steps, sublists};
+ghost use Rattle.stp_window.specs.Views.{point_of, points_of, span_of, spans_of, box_of};
 
 use crate::pairs::{all_apart, all_calm};
 use crate::states::{came_by, ended_before, holds_after};
-use crate::windows::{NumberedStep, Window, numbered, windows_of};
 use std::alloc::Global;
 use stp_base::{Memory, StateRow};
 use stp_cond::Cond;
-use stp_happen::BoxRun;
+use stp_happen::OwnedBox;
+use stp_window::windows::is_open;
+use stp_window::{Lasting, Window, lasting_of, windows_of};
 
 /// Whether an event finds what it needs in what is certain before its window.
 fn is_fed(
@@ -49,7 +52,7 @@ fn all_fed(alloc: Global, windows: &[Window<'_>], initial: &StateRow) -> Result<
 fn is_other(window: &Window<'_>, number: u32, time: u128) -> bool
     ensures { result ≡ (is_unsettled_lem time (point_of window.now) && not (window.now.step == number)) }
 {
-    (window.low <= time && time < window.high) && window.step != number
+    is_open(window.low, window.high, time) && window.step != number
 }
 
 /// The other steps whose ends are unsettled at a moment.
@@ -108,29 +111,37 @@ fn passes_all(
 /// unsettled steps have ended.
 fn is_kept(
     alloc: Global,
-    span: &NumberedStep<'_>,
+    span: &Lasting<'_>,
     time: u128,
     windows: &[Window<'_>],
     initial: &StateRow,
 ) -> Result<bool, Memory>
-    requires { is_below (length initial.now) span.now.step.over.now ≡ true }
+    requires { is_below (length initial.now) span.now.inside.over.now ≡ true }
     ensures { IfOk result (λ r. r ≡ is_kept_lem (box_of windows.now [] initial.now Cond.True) (span_of span.now) time) }
 {
-    if time < span.step.start || span.step.high <= time {
+    if time < span.owner.start || span.owner.high <= time {
         return Ok(true);
     }
-    let others = others(alloc, windows, span.number, time)?;
-    passes_all(alloc, span.step.over, time, windows, initial, &[], &others)
+    let others = others(alloc, windows, span.owner.number, time)?;
+    passes_all(
+        alloc,
+        span.inside.over,
+        time,
+        windows,
+        initial,
+        &[],
+        &others,
+    )
 }
 
 /// The same at each moment at which a window begins.
 fn is_kept_throughout(
     alloc: Global,
-    span: &NumberedStep<'_>,
+    span: &Lasting<'_>,
     windows: &[Window<'_>],
     initial: &StateRow,
 ) -> Result<bool, Memory>
-    requires { is_below (length initial.now) span.now.step.over.now ≡ true }
+    requires { is_below (length initial.now) span.now.inside.over.now ≡ true }
     ensures { IfOk result (λ r. r ≡ list_all (is_kept_lem (box_of windows.now [] initial.now Cond.True) (span_of span.now)) (map (λ w. w.low) windows.now)) }
 {
     for window in windows {
@@ -144,11 +155,11 @@ fn is_kept_throughout(
 /// Whether what has to hold inside a step does, for each step.
 fn all_kept(
     alloc: Global,
-    spans: &[NumberedStep<'_>],
+    spans: &[Lasting<'_>],
     windows: &[Window<'_>],
     initial: &StateRow,
 ) -> Result<bool, Memory>
-    requires { All (λ s. is_below (length initial.now) s.step.over.now ≡ true) spans.now }
+    requires { All (λ s. is_below (length initial.now) s.inside.over.now ≡ true) spans.now }
     ensures { IfOk result (λ r. r ≡ list_all (λ s. list_all (is_kept_lem (box_of windows.now [] initial.now Cond.True) s) (map (λ w. w.low) windows.now)) (spans_of spans.now)) }
 {
     for span in spans {
@@ -163,12 +174,12 @@ fn all_kept(
 fn has_facts(
     alloc: Global,
     windows: &[Window<'_>],
-    spans: &[NumberedStep<'_>],
+    spans: &[Lasting<'_>],
     initial: &StateRow,
     goal: &Cond<'_>,
 ) -> Result<bool, Memory>
     requires windows { All (λ w. IsEventInRange (length initial.now) w.event) windows.now }
-    requires spans { All (λ s. is_below (length initial.now) s.step.over.now ≡ true) spans.now }
+    requires spans { All (λ s. is_below (length initial.now) s.inside.over.now ≡ true) spans.now }
     requires goal { is_below (length initial.now) goal.now ≡ true }
     ensures { IfOk result (λ r. r ≡ is_sound_lem (box_of windows.now spans.now initial.now goal.now)) }
 {
@@ -187,12 +198,12 @@ fn has_facts(
 /// Whether a box has all static facts, and so is strong.
 ///
 /// At each moment every choice out of the unsettled ends is tried, so this is for small boxes.
-pub fn is_sound(alloc: Global, boxed: &BoxRun<'_>) -> Result<bool, Memory>
+pub fn is_sound(alloc: Global, boxed: &OwnedBox<'_>) -> Result<bool, Memory>
     ensures check { IfOk result (λ r. r ≡ is_sound_lem (windows_in boxed.now)) }
-    ensures strong { IfOk result (λ r. IsTrue r ↔ IsStrong (plain_box boxed.now)) }
+    ensures strong { IfOk result (λ r. IsTrue r ↔ IsStrong (plain_owned boxed.now)) }
 {
-    let steps = boxed.steps.as_slice();
-    let windows = windows_of(alloc, steps)?;
-    let spans = numbered(alloc, steps)?;
+    let owners = boxed.owners.as_slice();
+    let windows = windows_of(alloc, owners)?;
+    let spans = lasting_of(alloc, owners)?;
     has_facts(alloc, &windows, &spans, &boxed.initial, boxed.goal)
 }

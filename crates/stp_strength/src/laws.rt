@@ -2,13 +2,14 @@
 
 ghost use Rattle.stp_strength.specs.WindowLaws.{ExecutesAlwaysExactlyWhereSound, KeptAtEveryMoment};
 ghost use Rattle.stp_strength.specs.Strength.{StrongExactlyWhereSound, OneGridDecides};
-ghost use Rattle.stp_strength.specs.Moved.{MovedWindowsAreSound, MovedBoxesAreStrong};
+ghost use Rattle.stp_strength.specs.MovedBoxes.{MovedBoxesAreStrong};
+ghost use Rattle.stp_strength.specs.Moved.{MovedWindowsAreSound};
 ghost use Rattle.stp_strength.specs.Narrower.{NarrowerBoxesAreStrong};
-ghost use Rattle.stp_strength.specs.Failures.{GapsFail};
+ghost use Rattle.stp_strength.specs.BoxFailures.{GapsFail};
 ghost use Rattle.stp_strength.specs.Checks.{TestsTellFacts, TestsShowGaps, CheckDecides, StrongOrFails, FailuresMeanWeakness, StrongOrLeastFailure, LeastFailureExactlyWhereWeak};
-ghost use Rattle.stp_strength.specs.Parts.{CalmBoxesDoNotClash, CertainIsTheLastWay, CertainIsInitial, StatesGoByParts};
+ghost use Rattle.stp_strength.specs.Parts.{CalmBoxesDoNotClash, StatesGoByParts};
 ghost use Rattle.stp_strength.specs.Splitting.{SplittingAgrees};
-ghost use Rattle.stp_strength.specs.Boxed.{BoxesAreWellMade, BoxesHaveProperWindows, BoxCheckDecides, BoxGapsFail, BoxGridDecides, BoxLeastFailureExactlyWhereWeak};
+ghost use Rattle.stp_strength.specs.Boxed.{BoxCheckDecides, BoxGapsFail, BoxGridDecides, BoxLeastFailureExactlyWhereWeak};
 
 /// Every choice of moments executes exactly where windows have the static facts.
 pub fn executes_always_exactly_where_sound()
@@ -90,16 +91,6 @@ pub fn calm_boxes_do_not_clash()
     ensures { CalmBoxesDoNotClash }
 {}
 
-/// What is certain of an atom is the way of the writer whose window ends last.
-pub fn certain_is_the_last_way()
-    ensures { CertainIsTheLastWay }
-{}
-
-/// What is certain of an atom is its initial value where no writer's window has ended.
-pub fn certain_is_initial()
-    ensures { CertainIsInitial }
-{}
-
 /// A state is what is certain, but for what the unsettled ends write that have come.
 pub fn states_go_by_parts()
     ensures { StatesGoByParts }
@@ -108,16 +99,6 @@ pub fn states_go_by_parts()
 /// Splitting judges over-all conditions as the plain test does.
 pub fn splitting_agrees()
     ensures { SplittingAgrees }
-{}
-
-/// The steps of a box in an arena are well made.
-pub fn boxes_are_well_made()
-    ensures { BoxesAreWellMade }
-{}
-
-/// The windows of a box in an arena are proper.
-pub fn boxes_have_proper_windows()
-    ensures { BoxesHaveProperWindows }
 {}
 
 /// The plain check passes exactly where a box in an arena is strong.

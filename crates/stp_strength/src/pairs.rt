@@ -2,22 +2,23 @@
 
 ghost use Rattle.std.specs.Prelude.{◌≡◌};
 ghost use Rattle.std.specs.List.{list_all};
-ghost use Rattle.stp_strength.specs.Failures.{all_pairs_pass, stay_apart as stay_apart_lem, stay_calm as stay_calm_lem, may_meet as may_meet_lem};
-ghost use Rattle.stp_strength.specs.Views.{point_of, points_of, span_of, spans_of};
+ghost use Rattle.stp_strength.specs.Failures.{all_pairs_pass, stay_apart as stay_apart_lem, stay_calm as stay_calm_lem};
+ghost use Rattle.stp_window.specs.Views.{point_of, points_of, span_of, spans_of};
 
-use crate::windows::{NumberedStep, Window};
 use stp_cond::interfere;
+use stp_window::windows::windows_meet;
+use stp_window::{Lasting, Window};
 
 /// Whether two steps, if they are of one action, never run at one moment.
-pub fn stay_apart(one: &NumberedStep<'_>, other: &NumberedStep<'_>) -> bool
+pub fn stay_apart(one: &Lasting<'_>, other: &Lasting<'_>) -> bool
     ensures { result ≡ stay_apart_lem (span_of one.now) (span_of other.now) }
 {
-    !(one.number < other.number && one.step.key == other.step.key)
-        || one.step.high < other.step.start
-        || other.step.high < one.step.start
+    !(one.owner.number < other.owner.number && one.inside.key == other.inside.key)
+        || one.owner.high < other.owner.start
+        || other.owner.high < one.owner.start
 }
 
-fn apart_from(one: &NumberedStep<'_>, steps: &[NumberedStep<'_>]) -> bool
+fn apart_from(one: &Lasting<'_>, steps: &[Lasting<'_>]) -> bool
     ensures { result ≡ list_all (stay_apart_lem (span_of one.now)) (spans_of steps.now) }
 {
     for other in steps {
@@ -29,7 +30,7 @@ fn apart_from(one: &NumberedStep<'_>, steps: &[NumberedStep<'_>]) -> bool
 }
 
 /// Whether no two steps of one action ever run at one moment.
-pub fn all_apart(steps: &[NumberedStep<'_>]) -> bool
+pub fn all_apart(steps: &[Lasting<'_>]) -> bool
     ensures { result ≡ all_pairs_pass stay_apart_lem (spans_of steps.now) }
 {
     for one in steps {
@@ -40,18 +41,11 @@ pub fn all_apart(steps: &[NumberedStep<'_>]) -> bool
     true
 }
 
-/// Whether two windows have a common moment.
-pub fn may_meet(one: &Window<'_>, other: &Window<'_>) -> bool
-    ensures { result ≡ may_meet_lem (point_of one.now) (point_of other.now) }
-{
-    one.low <= other.high && other.low <= one.high
-}
-
 /// Whether two events of different steps, if their windows have a common moment, do not interfere.
 pub fn stay_calm(one: &Window<'_>, other: &Window<'_>) -> bool
     ensures { result ≡ stay_calm_lem (point_of one.now) (point_of other.now) }
 {
-    !(one.step < other.step && may_meet(one, other)) || !interfere(&one.event, &other.event)
+    !(one.step < other.step && windows_meet(one, other)) || !interfere(&one.event, &other.event)
 }
 
 fn calm_with(one: &Window<'_>, windows: &[Window<'_>]) -> bool

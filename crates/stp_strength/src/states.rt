@@ -1,47 +1,33 @@
 //! What events leave, each at the end of its window.
 
-ghost use Rattle.std.specs.Prelude.{◌≡◌, ℕ, ◌==◌, ◌<◌, ◌&&◌, ◌||◌, nat_lt, nat_le, not, true, length, filter, IfOk};
+ghost use Rattle.std.specs.Prelude.{◌≡◌, ℕ, ◌<◌, ◌&&◌, ◌||◌, nat_lt, nat_le, not, true, length, filter, IfOk};
 ghost use Rattle.std.specs.List.{list_all, list_any};
 ghost use Rattle.stp_cond.specs.Atoms.{has};
 ghost use Rattle.stp_cond.specs.Truth.{is_below, meaning_of, state_of_row};
-ghost use Rattle.stp_cond.specs.Views.{atoms_of};
 ghost use Rattle.stp_happen.specs.Plain.{state_after};
-ghost use Rattle.stp_strength.specs.Facts.{came_by as came_by_lem};
+ghost use Rattle.stp_window.specs.States.{came_by as came_by_lem};
 ghost use Rattle.stp_strength.specs.Failures.{of_steps};
-ghost use Rattle.stp_strength.specs.Parts.{sets as sets_lem};
-ghost use Rattle.stp_strength.specs.Views.{point_of, late_entries};
+ghost use Rattle.stp_window.specs.Certain.{sets as sets_lem};
+ghost use Rattle.stp_window.specs.Views.{point_of};
+ghost use Rattle.stp_strength.specs.Views.{late_entries};
 
-use crate::windows::Window;
 use std::alloc::Global;
 use stp_base::{AtomId, Memory, StateRow};
 use stp_cond::{Cond, holds};
-
-/// Whether an atom is among these.
-fn is_among(atoms: &[AtomId], atom: AtomId) -> bool
-    ensures { result ≡ list_any (λ a. a.0 == atom.0) atoms.now }
-{
-    atoms.iter().any(|other| other.0 == atom.0)
-}
+use stp_window::{Window, writing};
 
 /// Whether an event adds an atom.
 fn adds(window: &Window<'_>, atom: AtomId) -> bool
     ensures { result ≡ has (point_of window.now).event.adds atom.0 }
 {
-    is_among(window.event.adds, atom)
-}
-
-/// Whether an event deletes an atom.
-fn deletes(window: &Window<'_>, atom: AtomId) -> bool
-    ensures { result ≡ has (point_of window.now).event.dels atom.0 }
-{
-    is_among(window.event.dels, atom)
+    writing::adds(&window.event, atom)
 }
 
 /// Whether an event writes an atom.
 fn sets(window: &Window<'_>, atom: AtomId) -> bool
     ensures { result ≡ sets_lem (point_of window.now) atom.0 }
 {
-    adds(window, atom) || deletes(window, atom)
+    writing::sets(&window.event, atom)
 }
 
 /// Whether no event writes an atom at the end of a window that ends later.
@@ -70,7 +56,7 @@ fn is_added_last(windows: &[Window<'_>], atom: AtomId) -> bool
 /// What these events leave at an atom.
 fn value_after(windows: &[Window<'_>], initial: &StateRow, atom: AtomId) -> bool
     requires { atom.0 < length initial.now }
-    ensures { result ≡ state_after initial.now (late_entries windows.now) atom.0 }
+    ensures { result ≡ state_after (state_of_row initial.now) (late_entries windows.now) atom.0 }
 {
     if is_written(windows, atom) {
         is_added_last(windows, atom)
@@ -82,7 +68,7 @@ fn value_after(windows: &[Window<'_>], initial: &StateRow, atom: AtomId) -> bool
 /// The row that these events leave.
 fn row_after(alloc: Global, windows: &[Window<'_>], initial: &StateRow) -> Result<StateRow, Memory>
     ensures len { IfOk result (λ r. length r ≡ length initial.now) }
-    ensures state { IfOk result (λ r. (a : ℕ) → a < length initial.now → state_of_row r a ≡ state_after initial.now (late_entries windows.now) a) }
+    ensures state { IfOk result (λ r. (a : ℕ) → a < length initial.now → state_of_row r a ≡ state_after (state_of_row initial.now) (late_entries windows.now) a) }
 {
     let mut row = StateRow::new(alloc, initial.len())?;
     for atom in 0..initial.len() {
@@ -99,7 +85,7 @@ pub(crate) fn holds_after(
     initial: &StateRow,
 ) -> Result<bool, Memory>
     requires { is_below (length initial.now) cond.now ≡ true }
-    ensures { IfOk result (λ r. r ≡ meaning_of cond.now (state_after initial.now (late_entries windows.now))) }
+    ensures { IfOk result (λ r. r ≡ meaning_of cond.now (state_after (state_of_row initial.now) (late_entries windows.now))) }
 {
     let row = row_after(alloc, windows, initial)?;
     Ok(holds(cond, &row))

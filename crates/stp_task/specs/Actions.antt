@@ -3,7 +3,7 @@ use Rattle.std.specs.Prelude.{ℕ, List, map, Option, option_map}
 use Rattle.stp_cond.specs.declared.event.Event.{Event}
 use Rattle.stp_cond.specs.Formulas.{Formula, view}
 use Rattle.stp_cond.specs.Views.{atoms_of}
-use Rattle.stp_value.specs.Durations.{PlainDuration, plain_duration}
+use Rattle.stp_task.specs.Durations.{PlainDuration, plain_duration}
 use Rattle.stp_task.specs.declared.action.GroundAction.{GroundAction}
 
 -- an event: the formula that it needs, and the atoms that it reads, adds and deletes

@@ -3,12 +3,11 @@
 ghost use Rattle.std.specs.Prelude.{◌≡◌, ◌||◌, true, is_some};
 ghost use Rattle.stp_cond.specs.Formulas.{view};
 ghost use Rattle.stp_cond.specs.Folded.{is_always};
-ghost use Rattle.stp_value.specs.Durations.{plain_duration, is_lawful};
-ghost use Rattle.stp_task.specs.Lawful.{lasts};
+ghost use Rattle.stp_task.specs.Durations.{plain_duration, is_lawful, lasts};
 
+use crate::duration::Duration;
 use stp_base::ObjectId;
 use stp_cond::{Cond, Event};
-use stp_value::Duration;
 
 /// An action's schema with objects for its parameters. Its bounds are lawful. It has a finish exactly where its duration
 /// is not an instant; where it is, the condition over all is the formula true.

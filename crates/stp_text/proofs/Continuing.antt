@@ -10,18 +10,18 @@ use Rattle.stp_text.specs.Signs.{Sign, Opens, Closes, Spells, signs_of}
 use Rattle.stp_text.specs.Offences.{wrong, offences, unclosed, wrongs}
 use Rattle.stp_text.specs.Pieces.{signs_left, sign_of, Takes, TakesPiece, Refuses}
 use Rattle.stp_text.specs.declared.reader.Piece.{Piece}
-use Rattle.stp_text.specs.Reading.{Frame, items_of, judged, read_on, token_of, whole, only_list, tree_of}
+use Rattle.stp_text.specs.Reading.{Frame, outer_items, judged, read_on, token_of, whole, only_list, tree_of}
 
 pub on_word : (frames : List Frame) (items : List Tree) (at : ℕ) (text : List ℕ) (ss : List Sign) → wrong (Spells at text) ≡ [] → read_on frames items (Spells at text ∷ ss) ≡ read_on frames (items ++ Word at (folded text) ∷ []) ss
-unfolding read_on offences unclosed items_of
+unfolding read_on offences unclosed outer_items
 on_word frames items at text ss e = rw e refl
 
 pub on_open : (frames : List Frame) (items : List Tree) (at : ℕ) (ss : List Sign) → length frames ≢ 100 → read_on frames items (Opens at ∷ ss) ≡ read_on ((at, items) ∷ frames) [] ss
-unfolding read_on offences unclosed items_of
+unfolding read_on offences unclosed outer_items
 on_open frames items at ss h = rw length-map (rw (ne_eqb (length frames) 100 h) refl)
 
 pub on_close : (frames : List Frame) (items before : List Tree) (at end : ℕ) (ss : List Sign) → read_on ((at, before) ∷ frames) items (Closes end ∷ ss) ≡ read_on frames (before ++ Node at (trees_of items) ∷ []) ss
-unfolding read_on offences unclosed items_of
+unfolding read_on offences unclosed outer_items
 on_close frames items before at end ss = refl
 
 pub too_deep : (frames : List Frame) (items : List Tree) (at : ℕ) (ss : List Sign) → length frames ≡ 100 → read_on frames items (Opens at ∷ ss) ≡ Err (TooDeep at)
@@ -38,7 +38,7 @@ unfolding read_on offences unclosed
 unclosed_end frames items before at = refl
 
 pub whole_end : (items : List Tree) → read_on [] items [] ≡ Ok items
-unfolding read_on offences unclosed items_of
+unfolding read_on offences unclosed outer_items
 whole_end items = refl
 
 pub wrong_sign : (frames : List Frame) (items : List Tree) (s : Sign) (ss : List Sign) (fault : TextFault) → wrong s ≡ fault ∷ [] → read_on frames items (s ∷ ss) ≡ Err fault

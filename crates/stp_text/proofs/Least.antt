@@ -8,7 +8,7 @@ use Rattle.stp_text.specs.declared.fault.TextFault.TheVariants.{BadByte, StrayCl
 use Rattle.stp_text.specs.Bytes.{kind, run}
 use Rattle.stp_text.specs.Signs.{Sign, Opens, Closes, Spells, Strange, Inside, Nothing, AWord, AComment, begins, begins_here, begins_after_word, within, signs, signs_of}
 use Rattle.stp_text.specs.Offences.{wrong, misplaced, open_after, offences, wrongs, unclosed, place_of}
-use Rattle.stp_text.specs.Reading.{judged, items_of, read_on, tree_of, tokens_of, token_of, whole}
+use Rattle.stp_text.specs.Reading.{judged, outer_items, read_on, tree_of, tokens_of, token_of, whole}
 use Rattle.stp_text.specs.Tree.{Tree}
 use Rattle.stp_text.specs.Laws.{IsLeast, GivesLeast, TreeGivesLeast, TokensGiveLeast}
 
@@ -128,7 +128,7 @@ whole_refused end found r g ne = let h = g ne in (h.0, ap (whole end) h.1, h.2)
 
 pub tree_gives_least : TreeGivesLeast
 unfolding tree_of read_on
-tree_gives_least bytes = let ss = signs_of bytes in whole_refused (length bytes) (offences [] ss) _ (gives_first 0 (offences [] ss) (unclosed [] ss) (items_of [] [] ss) (ordered Nothing 0 bytes []))
+tree_gives_least bytes = let ss = signs_of bytes in whole_refused (length bytes) (offences [] ss) _ (gives_first 0 (offences [] ss) (unclosed [] ss) (outer_items [] [] ss) (ordered Nothing 0 bytes []))
 
 pub tokens_give_least : TokensGiveLeast
 unfolding tokens_of

@@ -4,3 +4,5 @@ pub mod Continuing
 pub mod Equations
 pub mod Spelling
 pub mod Least
+pub mod Items
+mod Runs

@@ -10,7 +10,8 @@ use Rattle.stp_text.specs.Bytes.{kind, folded}
 use Rattle.stp_text.specs.Signs.{Sign, Opens, Closes, Spells, Strange, Inside, Nothing, AWord, AComment, begins, begins_here, begins_after_word, within, signs, signs_of}
 use Rattle.stp_text.specs.Offences.{wrong}
 use Rattle.stp_text.specs.Reading.{Frame, read_on, tree_of, whole, only_list}
-use Rattle.stp_text.specs.Spelling.{Mark, Opening, Closing, Text, mark, spell, spell_all, nesting, nesting_of_all, longest, longest_of_all, is_list}
+use Rattle.stp_text.specs.Items.{is_list, list_of}
+use Rattle.stp_text.specs.Spelling.{Mark, Opening, Closing, Text, mark, spell, spell_all, nesting, nesting_of_all, longest, longest_of_all}
 use Rattle.stp_text.specs.Laws.{Spelled}
 use Rattle.stp_text.proofs.Continuing.{on_word, on_open, on_close, too_deep, stray, unclosed_end, whole_end, wrong_sign, tree_whole}
 use Rattle.std.proofs.lemmas.Bool.{eqb-false}
@@ -205,10 +206,6 @@ record Builds (frames : List Frame) (items : List Tree) (ss : List Sign) (after 
   rest : List Sign
   same : map mark rest ≡ after
   read : read_on frames items ss ≡ read_on frames (items ++ more) rest
-
-abbrev list_of : Trees → List Tree
-list_of NoMore = []
-list_of (More t ts) = t ∷ list_of ts
 
 trees_of_list : (ts : Trees) → trees_of (list_of ts) ≡ ts
 trees_of_list NoMore = refl

@@ -5,7 +5,8 @@ use Rattle.stp_text.specs.Tree.{Tree}
 use Rattle.stp_text.specs.Signs.{signs_of}
 use Rattle.stp_text.specs.Offences.{offences, wrongs, place_of}
 use Rattle.stp_text.specs.Reading.{tree_of, tokens_of}
-use Rattle.stp_text.specs.Spelling.{spell, marks_of, nesting, longest, is_list}
+use Rattle.stp_text.specs.Items.{is_list}
+use Rattle.stp_text.specs.Spelling.{spell, marks_of, nesting, longest}
 
 -- a text spells a list, which is not nested too deeply and has no overlong word
 pub record Spelled (bytes : List ℕ) (t : Tree) : Type 0 where

@@ -1,8 +1,11 @@
 pub mod Tree
+pub mod Items
 pub mod Bytes
+pub mod Names
 pub mod Signs
 pub mod Offences
 pub mod Reading
 pub mod Pieces
 pub mod Spelling
 pub mod Laws
+pub mod Runs

@@ -6,6 +6,7 @@ use Rattle.stp_text.specs.declared.fault.TextFault.TheVariants.{Unclosed, NotOne
 use Rattle.stp_text.specs.declared.token.Token.{Token}
 use Rattle.stp_text.specs.declared.token.TokenKind.TheVariants.{LeftParen, RightParen, Word as AWord}
 use Rattle.stp_text.specs.Tree.{Tree, Word, Node, trees_of}
+use Rattle.stp_text.specs.Items.{place}
 use Rattle.stp_text.specs.Bytes.{folded}
 use Rattle.stp_text.specs.Signs.{Sign, Opens, Closes, Spells, Strange, signs_of}
 use Rattle.stp_text.specs.Offences.{offences, unclosed, wrongs}
@@ -15,13 +16,13 @@ abbrev pub Frame : Type 0
 Frame = ℕ × List Tree
 
 -- the items at the outside, once these lists are open and the innermost has these items
-unfoldable pub items_of : List Frame → List Tree → List Sign → List Tree
-items_of frames items [] = items
-items_of frames items (Opens at ∷ ss) = items_of ((at, items) ∷ frames) [] ss
-items_of [] items (Closes at ∷ ss) = items_of [] items ss
-items_of (frame ∷ frames) items (Closes at ∷ ss) = items_of frames (frame.1 ++ Node frame.0 (trees_of items) ∷ []) ss
-items_of frames items (Spells at text ∷ ss) = items_of frames (items ++ Word at (folded text) ∷ []) ss
-items_of frames items (Strange at ∷ ss) = items_of frames items ss
+unfoldable pub outer_items : List Frame → List Tree → List Sign → List Tree
+outer_items frames items [] = items
+outer_items frames items (Opens at ∷ ss) = outer_items ((at, items) ∷ frames) [] ss
+outer_items [] items (Closes at ∷ ss) = outer_items [] items ss
+outer_items (frame ∷ frames) items (Closes at ∷ ss) = outer_items frames (frame.1 ++ Node frame.0 (trees_of items) ∷ []) ss
+outer_items frames items (Spells at text ∷ ss) = outer_items frames (items ++ Word at (folded text) ∷ []) ss
+outer_items frames items (Strange at ∷ ss) = outer_items frames items ss
 
 -- the rule: the first offence of the table; where there is none, the last `(` that has no `)`
 abbrev pub judged : {A : Type 0} → List TextFault → List ℕ → A → Result A TextFault
@@ -35,12 +36,7 @@ places frames = map (λ (f : Frame). f.0) frames
 
 -- what comes of signs that stand inside of open lists
 unfoldable pub read_on : List Frame → List Tree → List Sign → Result (List Tree) TextFault
-read_on frames items ss = judged (offences (places frames) ss) (unclosed (places frames) ss) (items_of frames items ss)
-
--- the place of a word or a list
-abbrev pub place : Tree → ℕ
-place (Word at text) = at
-place (Node at items) = at
+read_on frames items ss = judged (offences (places frames) ss) (unclosed (places frames) ss) (outer_items frames items ss)
 
 -- the one item of a file of this length, which has to be a list
 abbrev pub only_list : ℕ → List Tree → Result Tree TextFault

@@ -1,5 +1,5 @@
 -- What a tree spells.
-use Rattle.std.specs.Prelude.{ℕ, ◌+◌, max, Bool, true, false, List, [], ◌∷◌, ◌++◌, length, map}
+use Rattle.std.specs.Prelude.{ℕ, ◌+◌, max, List, [], ◌∷◌, ◌++◌, length, map}
 use Rattle.stp_text.specs.Tree.{Tree, Trees, Word, Node, NoMore, More}
 use Rattle.stp_text.specs.Bytes.{folded}
 use Rattle.stp_text.specs.Signs.{Sign, Opens, Closes, Spells, Strange, signs_of}
@@ -51,8 +51,3 @@ abbrev mutual
   pub longest_of_all : Trees → ℕ
   longest_of_all NoMore = 0
   longest_of_all (More t ts) = max (longest t) (longest_of_all ts)
-
--- whether a tree is a list
-abbrev pub is_list : Tree → Bool
-is_list (Word at text) = false
-is_list (Node at items) = true

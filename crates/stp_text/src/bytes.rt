@@ -2,7 +2,7 @@
 
 ghost use Rattle.std.specs.Prelude.{◌≡◌};
 ghost use Rattle.std.specs.List.{prefix_len};
-ghost use Rattle.stp_text.specs.Bytes.{kind, is_word_byte, is_comment_byte};
+ghost use Rattle.stp_text.specs.Bytes.{is_white, kind, is_word_byte, is_comment_byte};
 
 /// What a byte outside comments is.
 #[derive(Clone, Copy)]
@@ -21,13 +21,20 @@ pub enum ByteKind {
     Other,
 }
 
+/// Whether a byte is a space, a tab, a carriage return or a line feed.
+pub fn is_white(byte: u8) -> bool
+    ensures { result ≡ is_white byte }
+{
+    matches!(byte, b' ' | b'\t' | b'\r' | b'\n')
+}
+
 /// What a byte outside comments is.
 #[tactic(auto, unfolding(crate::specs::Bytes::kind))]
 pub fn kind_of(byte: u8) -> ByteKind
     ensures { result ≡ kind byte }
 {
     match byte {
-        b' ' | b'\t' | b'\r' | b'\n' => ByteKind::White,
+        _ if is_white(byte) => ByteKind::White,
         b';' => ByteKind::Semicolon,
         b'(' => ByteKind::Open,
         b')' => ByteKind::Close,

@@ -3,6 +3,7 @@
 ghost use Rattle.std.specs.Prelude.{◌≡◌, ℕ, ◌≤◌, List, length};
 ghost use Rattle.stp_text.specs.Tree.{Tree, nodes};
 ghost use Rattle.stp_text.specs.Reading.{tree_of};
+ghost use Rattle.stp_text.specs.Runs.{WordsAreLongestRuns};
 ghost use Rattle.stp_text.specs.Laws.{Spelled, TreeGivesLeast, TokensGiveLeast};
 
 /// A text is read as a tree exactly where it spells that tree.
@@ -20,4 +21,10 @@ pub fn reads_no_more_than_bytes()
 pub fn gives_the_least_offence()
     ensures tree { TreeGivesLeast }
     ensures tokens { TokensGiveLeast }
+{}
+
+/// A text without comments, of white bytes, parentheses and words that are longest runs, has these parentheses and words
+/// at their places, and no others.
+pub fn words_are_longest_runs()
+    ensures { WordsAreLongestRuns }
 {}

@@ -4,7 +4,7 @@ ghost use Rattle.std.specs.Prelude.{◌≡◌, ◌≢◌, ◌≤◌, true, [], �
 ghost use Rattle.stp_text.specs.Tree.{view, nodes};
 ghost use Rattle.stp_text.specs.Bytes.{folded};
 ghost use Rattle.stp_text.specs.Offences.{wrong};
-ghost use Rattle.stp_text.specs.Reading.{tree_of, only_list, place};
+ghost use Rattle.stp_text.specs.Reading.{tree_of, only_list};
 ghost use Rattle.stp_text.specs.Pieces.{sign_of, signs_left, is_close, ReadsItem, RefusesItem, ReadsItems, RefusesItems};
 
 use crate::fault::TextFault;
@@ -85,16 +85,6 @@ fn items<'a>(
     Err(TextFault::Unclosed(at))
 }
 
-/// The offset of the first byte of a word or a list.
-fn place_of(tree: &Sexpr<'_>) -> u32
-    ensures { result ≡ place (view tree.now) }
-{
-    match tree {
-        Sexpr::Word { at, .. } => *at,
-        Sexpr::Items { at, .. } => *at,
-    }
-}
-
 /// The one item of a text of this length, which has to be a list.
 fn one_list<'a>(items: &[Sexpr<'a>], end: u32) -> Result<Sexpr<'a>, TextFault>
     ensures { MatchResult result (λ t. only_list end (map view items.now) ≡ Ok (view t)) (λ fault. only_list end (map view items.now) ≡ Err fault) }
@@ -108,7 +98,7 @@ fn one_list<'a>(items: &[Sexpr<'a>], end: u32) -> Result<Sexpr<'a>, TextFault>
     let [second, ..] = rest else {
         return Ok(*first);
     };
-    Err(TextFault::NotOneList(place_of(second)))
+    Err(TextFault::NotOneList(second.place()))
 }
 
 /// The tree of a text in the arena, or its one refusal.

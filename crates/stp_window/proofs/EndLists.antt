@@ -1,51 +1,47 @@
--- Which steps are unsettled, step by step.
-use Rattle.std.proofs.Common.{◌≡◌, ℕ, ◌+◌, ◌<◌, nat_lt, Bool, true, false, cond, List, [], ◌∷◌, ◌++◌, map, filter, drop, length, get_or, refl, ap, sym, ◌∙◌, arith, append_assoc}
+-- Which owners are unsettled, owner by owner.
+use Rattle.std.proofs.Common.{◌≡◌, ℕ, ◌<◌, nat_lt, nat_le, Bool, true, false, ◌&&◌, cond, List, [], ◌∷◌, ◌++◌, map, filter, All, refl, subst, arith}
 use Rattle.std.specs.List.{list_all}
 use Rattle.std.proofs.lemmas.Bool.Decides.{nat_tests}
-use Rattle.stp_happen.specs.declared.boxes.BoxStep.{BoxStep}
-use Rattle.stp_happen.specs.Boxes.{PlainStep, step_of, steps_of}
+use Rattle.std.proofs.lemmas.List.Elements.{All-tail}
+use Rattle.stp_happen.specs.Boxes.{PlainOwner}
+use Rattle.stp_happen.specs.Owners.{IsTimed, AreInOrder}
 use Rattle.stp_happen.specs.Sound.{is_ascending}
-use Rattle.stp_happen.proofs.BoxSteps.{step_here}
-use Rattle.stp_happen.proofs.Members.{and_both}
-use Rattle.stp_strength.specs.Windows.{OpenSpan}
-use Rattle.stp_strength.specs.Failures.{is_unsettled}
-use Rattle.stp_strength.specs.Steps.{end_point, open_span, open_spans_from}
-use Rattle.stp_window.specs.Ends.{unsettled_from}
+use Rattle.stp_happen.proofs.Members.{and_both, all_pass, each_of, mapped_member, member_of_kept}
+use Rattle.stp_window.specs.Windows.{is_unsettled}
+use Rattle.stp_window.specs.OwnerWindows.{end_point, IsWellMade}
+use Rattle.stp_window.specs.Ends.{unsettled_among}
 
 first_apart : {X Y : Type 0} (f : X → Y) (x : X) (xs : List X) (b : Bool) → map f (cond b (x ∷ xs) xs) ≡ map f (cond b (x ∷ []) []) ++ map f xs
 first_apart f x xs true = refl
 first_apart f x xs false = refl
 
--- the first step, and the rest
-pub first_step : (number : ℕ) (s : PlainStep) (ss : List PlainStep) (t : ℕ) → unsettled_from number (s ∷ ss) t ≡ unsettled_from number (s ∷ []) t ++ unsettled_from (number + 1) ss t
-first_step number s ss t = first_apart (λ (o : OpenSpan). o.end.step) (open_span number s) (filter (λ o. is_unsettled t o.end) (open_spans_from (number + 1) ss)) (is_unsettled t (end_point number s))
-
-pub one_more : (steps : List BoxStep) (i : ℕ) (s : BoxStep) → i < length steps → s ≡ get_or steps i s → (number t : ℕ) (found new whole : List ℕ) →
-    new ≡ found ++ unsettled_from number (step_of s ∷ []) t → found ++ unsettled_from number (steps_of (drop i steps)) t ≡ whole → new ++ unsettled_from (number + 1) (steps_of (drop (i + 1) steps)) t ≡ whole
-one_more steps i s l e number t found new whole more all =
-    ap (λ ns. ns ++ unsettled_from (number + 1) (steps_of (drop (i + 1) steps)) t) more
-    ∙ (append_assoc found (unsettled_from number (step_of s ∷ []) t) (unsettled_from (number + 1) (steps_of (drop (i + 1) steps)) t)
-    ∙ (ap (λ ns. found ++ ns) (sym (first_step number (step_of s) (steps_of (drop (i + 1) steps)) t)) ∙ (ap (λ ss. found ++ unsettled_from number ss t) (sym (step_here steps i s l e)) ∙ all)))
+-- the first owner, and the rest
+pub first_owner : (t : ℕ) (o : PlainOwner) (os : List PlainOwner) → unsettled_among (o ∷ os) t ≡ unsettled_among (o ∷ []) t ++ unsettled_among os t
+first_owner t o os = first_apart (λ (x : PlainOwner). x.number) o (filter (λ x. is_unsettled t (end_point x)) os) (is_unsettled t (end_point o))
 
 -- ---- in order
 
 before : (m n : ℕ) → m < n → nat_lt m n ≡ true
 before m n l = grind (arith, nat_tests)
 
--- the numbers from here on are all past one before
-past : (m number : ℕ) (ss : List PlainStep) (t : ℕ) → m < number → list_all (nat_lt m) (unsettled_from number ss t) ≡ true
-past m number [] t l = refl
-past m number (s ∷ ss) t l = by_test m number (is_unsettled t (end_point number s)) (open_span number s) (filter (λ o. is_unsettled t o.end) (open_spans_from (number + 1) ss)) refl l (past m (number + 1) ss t (omega arith))
+-- an unsettled owner is no event of the environment at a fixed moment
+not_timed : (t : ℕ) (o : PlainOwner) → IsWellMade o → is_unsettled t (end_point o) ≡ true → IsTimed o → ⊥
+not_timed t o w h timed = by_numbers t o.low o.high (w.certain timed.certain) h
   where
-    by_test : (m number : ℕ) (b : Bool) (o : OpenSpan) (os : List OpenSpan) → o.end.step ≡ number → m < number → list_all (nat_lt m) (map (λ o. o.end.step) os) ≡ true → list_all (nat_lt m) (map (λ o. o.end.step) (cond b (o ∷ os) os)) ≡ true
-    by_test m number true o os e l rest = and_both (nat_lt m o.end.step) (list_all (nat_lt m) (map (λ o. o.end.step) os)) (before m o.end.step (omega arith)) rest
-    by_test m number false o os e l rest = rest
+    by_numbers : (t a b : ℕ) → a ≡ b → (nat_le a t && nat_lt t b) ≡ true → ⊥
+    by_numbers t a b e h = grind (arith, nat_tests)
 
-pub numbers_rise : (number : ℕ) (ss : List PlainStep) (t : ℕ) → is_ascending nat_lt (unsettled_from number ss t) ≡ true
-numbers_rise number [] t = refl
-numbers_rise number (s ∷ ss) t =
-    by_test (is_unsettled t (end_point number s)) (open_span number s) (filter (λ o. is_unsettled t o.end) (open_spans_from (number + 1) ss)) (past number (number + 1) ss t (omega arith)) (numbers_rise (number + 1) ss t)
+above : (t n : ℕ) (os : List PlainOwner) → All IsWellMade os → All (λ y. (IsTimed y → ⊥) → n < y.number) os → list_all (nat_lt n) (unsettled_among os t) ≡ true
+above t n os made later = all_pass (nat_lt n) (unsettled_among os t) (λ m i.
+    let r = mapped_member (λ (x : PlainOwner). x.number) (filter (λ x. is_unsettled t (end_point x)) os) m i in
+    let k = member_of_kept (λ x. is_unsettled t (end_point x)) os r.0 r.1 in
+    subst (λ x. nat_lt n x ≡ true) r.2 (before n r.0.number (each_of (λ y. (IsTimed y → ⊥) → n < y.number) os later r.0 k.0 (not_timed t r.0 (each_of IsWellMade os made r.0 k.0) k.1))))
+
+pub numbers_rise : (t : ℕ) (owners : List PlainOwner) → All IsWellMade owners → AreInOrder owners → is_ascending nat_lt (unsettled_among owners t) ≡ true
+numbers_rise t [] made order = refl
+numbers_rise t (o ∷ os) made order =
+    by_test (is_unsettled t (end_point o)) o (filter (λ x. is_unsettled t (end_point x)) os) (above t o.number os (All-tail IsWellMade o os made) order.0) (numbers_rise t os (All-tail IsWellMade o os made) order.1)
   where
-    by_test : (b : Bool) (o : OpenSpan) (os : List OpenSpan) → list_all (nat_lt o.end.step) (map (λ o. o.end.step) os) ≡ true → is_ascending nat_lt (map (λ o. o.end.step) os) ≡ true → is_ascending nat_lt (map (λ o. o.end.step) (cond b (o ∷ os) os)) ≡ true
-    by_test true o os later rest = and_both (list_all (nat_lt o.end.step) (map (λ o. o.end.step) os)) (is_ascending nat_lt (map (λ o. o.end.step) os)) later rest
+    by_test : (b : Bool) (o : PlainOwner) (os : List PlainOwner) → list_all (nat_lt o.number) (map (λ x. x.number) os) ≡ true → is_ascending nat_lt (map (λ x. x.number) os) ≡ true → is_ascending nat_lt (map (λ x. x.number) (cond b (o ∷ os) os)) ≡ true
+    by_test true o os later rest = and_both (list_all (nat_lt o.number) (map (λ x. x.number) os)) (is_ascending nat_lt (map (λ x. x.number) os)) later rest
     by_test false o os later rest = rest

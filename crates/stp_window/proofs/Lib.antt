@@ -1,3 +1,9 @@
+pub mod LatestPoints
+pub mod LastWay
+pub mod Proper
+pub mod WellMade
+pub mod OwnerLoops
+pub mod Writers
+pub mod EndLists
 pub mod Later
 pub mod Meetings
-pub mod EndLists

@@ -1,16 +1,18 @@
 -- Windows with a common moment, and steps by their numbers.
-use Rattle.std.proofs.Common.{◌≡◌, ℕ, zero, suc, ◌-◌, ◌≤◌, ◌↔◌, nat_le, Bool, true, ◌&&◌, IsTrue, List, [], ◌∷◌, get_or, max, Contains, Option, Some, None, IfSome, IsSome, refl, ap, sym, ◌∙◌, subst, arith, true≢false}
+use Rattle.std.proofs.Common.{◌≡◌, ℕ, zero, suc, ◌-◌, ◌≤◌, ◌↔◌, nat_le, Bool, true, ◌&&◌, IsTrue, List, [], ◌∷◌, length, get_or, max, Contains, Option, Some, None, IfSome, IsSome, refl, ap, sym, ◌∙◌, subst, arith, true≢false}
 use Rattle.std.specs.Prelude.{slice_get, option_map, option_and_then}
+use Rattle.std.proofs.Math.Logic.{∥∥₁_elim}
+use Rattle.std.proofs.Props.{props}
 use Rattle.std.proofs.lemmas.Bool.{leb-true, le-leb}
 use Rattle.stp_cond.specs.Atoms.{PlainEvent}
 use Rattle.stp_happen.specs.declared.boxes.BoxStep.{BoxStep}
 use Rattle.stp_happen.specs.declared.boxes.BoxRun.{BoxRun}
-use Rattle.stp_happen.specs.Boxes.{PlainStep, step_of, steps_of, plain_box}
-use Rattle.stp_happen.proofs.Members.{each_of, here, there, and_left, and_right, and_both}
-use Rattle.stp_strength.specs.Windows.{Point}
-use Rattle.stp_strength.specs.Steps.{IsWellMade, first_point, end_point}
-use Rattle.stp_strength.specs.Failures.{may_meet}
-use Rattle.stp_strength.proofs.WellMade.{boxes_are_well_made}
+use Rattle.stp_happen.specs.Owners.{PlainStep, step_owner}
+use Rattle.stp_happen.specs.SoundBox.{IsBoxStep}
+use Rattle.stp_happen.specs.StepViews.{step_of, steps_of}
+use Rattle.stp_happen.proofs.Members.{each_of, each_mapped, here, there, and_left, and_right, and_both}
+use Rattle.stp_window.specs.Windows.{Point, may_meet}
+use Rattle.stp_window.specs.OwnerWindows.{first_point, end_point}
 use Rattle.stp_window.specs.declared.meeting.PointOf.{PointOf}
 use Rattle.stp_window.specs.declared.meeting.PointOf.TheVariants.{First, Last}
 use Rattle.stp_window.specs.Points.{step_numbered, last_point, point_at, HaveMoment, IfBoth}
@@ -38,18 +40,22 @@ numbered_member steps (suc n) s e = at_place steps n s e
         some_same e = cc
     at_place (x ∷ xs) (suc n) s e = there x xs s (at_place xs n s e)
 
--- a point of a box has its window's ends in order
-pub point_goes_up : (boxed : BoxRun) (point : PointOf) (p : Point) → point_at (plain_box boxed) point ≡ Some p → p.low ≤ p.high
-point_goes_up boxed (First step) p e = first_up (step_numbered (plain_box boxed).steps step.0) step.0 p e
+-- a step of a box has its low up to its high
+step_goes_up : (boxed : BoxRun) (s : PlainStep) → Contains (steps_of boxed.steps) s → s.low ≤ s.high
+step_goes_up boxed s i = ∥∥₁_elim boxed.sound (Prim.hlevel props) (λ b. each_mapped step_of (λ (x : PlainStep). x.low ≤ x.high) boxed.steps (λ x j. (each_of (IsBoxStep boxed.grid (length boxed.initial)) boxed.steps b.steps_in_range x j).up) s i)
+
+-- a point of a step has its window's ends in order
+pub point_goes_up : (boxed : BoxRun) (point : PointOf) (p : Point) → point_at (steps_of boxed.steps) point ≡ Some p → p.low ≤ p.high
+point_goes_up boxed (First step) p e = first_up (step_numbered (steps_of boxed.steps) step.0) step.0 p e
   where
-    first_up : (found : Option PlainStep) (number : ℕ) (p : Point) → option_map (first_point number) found ≡ Some p → p.low ≤ p.high
+    first_up : (found : Option PlainStep) (number : ℕ) (p : Point) → option_map (λ s. first_point (step_owner number s)) found ≡ Some p → p.low ≤ p.high
     first_up None number p e = absurd (cc)
-    first_up (Some s) number p e = let q : first_point number s ≡ p = cc in subst (λ (x : Point). x.low ≤ x.high) q (omega arith)
-point_goes_up boxed (Last step) p e = last_up (step_numbered (plain_box boxed).steps step.0) step.0 p (λ s f. (each_of IsWellMade (plain_box boxed).steps (boxes_are_well_made boxed) s (numbered_member (plain_box boxed).steps step.0 s f)).ordered) e
+    first_up (Some s) number p e = let q : first_point (step_owner number s) ≡ p = cc in subst (λ (x : Point). x.low ≤ x.high) q (omega arith)
+point_goes_up boxed (Last step) p e = last_up (step_numbered (steps_of boxed.steps) step.0) step.0 p (λ s f. step_goes_up boxed s (numbered_member (steps_of boxed.steps) step.0 s f)) e
   where
-    with_last : (last : Option PlainEvent) (number : ℕ) (s : PlainStep) (p : Point) → s.low ≤ s.high → option_map (λ event. end_point number s) last ≡ Some p → p.low ≤ p.high
+    with_last : (last : Option PlainEvent) (number : ℕ) (s : PlainStep) (p : Point) → s.low ≤ s.high → option_map (λ event. end_point (step_owner number s)) last ≡ Some p → p.low ≤ p.high
     with_last None number s p l e = absurd (cc)
-    with_last (Some event) number s p l e = let q : end_point number s ≡ p = cc in subst (λ (x : Point). x.low ≤ x.high) q l
+    with_last (Some event) number s p l e = let q : end_point (step_owner number s) ≡ p = cc in subst (λ (x : Point). x.low ≤ x.high) q l
 
     last_up : (found : Option PlainStep) (number : ℕ) (p : Point) → ((s : PlainStep) → found ≡ Some s → s.low ≤ s.high) → option_and_then (last_point number) found ≡ Some p → p.low ≤ p.high
     last_up None number p up e = absurd (cc)

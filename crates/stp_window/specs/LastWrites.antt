@@ -1,8 +1,8 @@
 -- The last write of an atom by a moment.
 use Rattle.std.specs.Prelude.{◌≡◌, ℕ, ◌≤◌, nat_lt, Bool, true, false, ◌||◌, List, Option, Some, None, Contains}
 use Rattle.stp_cond.specs.Atoms.{PlainEvent, has}
-use Rattle.stp_strength.specs.Windows.{Point}
-use Rattle.stp_strength.specs.Parts.{sets}
+use Rattle.stp_window.specs.Windows.{Point}
+use Rattle.stp_window.specs.Certain.{sets}
 use Rattle.stp_window.specs.declared.certain.Write.{Write}
 
 -- whether an event writes an atom

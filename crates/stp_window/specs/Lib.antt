@@ -1,3 +1,9 @@
+pub mod Windows
+pub mod States
+pub mod OwnerWindows
+pub mod Certain
+pub mod Views
+pub mod Boxed
 pub mod Points
 pub mod LastWrites
 pub mod Ends

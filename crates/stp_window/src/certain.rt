@@ -1,48 +1,28 @@
 //! What is certain of an atom at a moment.
 
-ghost use Rattle.std.specs.Prelude.{◌≡◌, ℕ, ◌==◌, ◌<◌, ◌≤◌, ◌++◌, ◌∷◌, [], ◌&&◌, ◌||◌, nat_le, not, true, List, Contains, length, slice_index_or, false};
-ghost use Rattle.std.specs.List.{list_any};
+ghost use Rattle.std.specs.Prelude.{◌≡◌, ℕ, ◌<◌, ◌≤◌, ◌++◌, ◌∷◌, [], ◌&&◌, nat_le, not, true, List, Contains, length};
 ghost use Rattle.stp_cond.specs.Atoms.{has};
 ghost use Rattle.stp_cond.specs.Events.{event_of};
 ghost use Rattle.stp_cond.specs.Truth.{state_of_row};
-ghost use Rattle.stp_cond.specs.Views.{atoms_of};
-ghost use Rattle.stp_happen.specs.Boxes.{step_of, steps_of, plain_box};
-ghost use Rattle.stp_strength.specs.Boxed.{windows_in};
-ghost use Rattle.stp_strength.specs.Parts.{sets as sets_lem, NoneClash, IsLastWriter, certain_value as certain_value_lem};
-ghost use Rattle.stp_strength.specs.Steps.{points_of_step, points_from};
-ghost use Rattle.stp_strength.specs.Windows.{Point};
+ghost use Rattle.stp_happen.specs.BoxViews.{plain_box};
+ghost use Rattle.stp_happen.specs.Owners.{step_owner, step_owners, timed_owners};
+ghost use Rattle.stp_happen.specs.StepViews.{step_of, steps_of, timed_of};
+ghost use Rattle.stp_window.specs.Boxed.{windows_in_run};
+ghost use Rattle.stp_window.specs.Certain.{sets as sets_lem, NoneClash, IsLastWriter, certain_value as certain_value_lem};
 ghost use Rattle.stp_window.specs.LastWrites.{writes, has_later, IsLastWrite};
+ghost use Rattle.stp_window.specs.OwnerWindows.{points_of_owner, points_of_owners};
+ghost use Rattle.stp_window.specs.Windows.{Point};
 
+use crate::writing::{adds, sets};
 use stp_base::AtomId;
 use stp_cond::Event;
-use stp_happen::{BoxRun, BoxStep};
+use stp_happen::{BoxRun, BoxStep, BoxTimed};
 
 /// That an event writes an atom: when its window ends, and whether it adds the atom.
 #[derive(Clone, Copy)]
 struct Write {
     end: u128,
     adds: bool,
-}
-
-/// Whether an atom is among these.
-fn is_among(atoms: &[AtomId], atom: AtomId) -> bool
-    ensures { result ≡ list_any (λ a. a.0 == atom.0) atoms.now }
-{
-    atoms.iter().any(|other| other.0 == atom.0)
-}
-
-/// Whether an event adds an atom.
-fn adds(event: &Event<'_>, atom: AtomId) -> bool
-    ensures { result ≡ has (event_of event.now).adds atom.0 }
-{
-    is_among(event.adds, atom)
-}
-
-/// Whether an event deletes an atom.
-fn deletes(event: &Event<'_>, atom: AtomId) -> bool
-    ensures { result ≡ has (event_of event.now).dels atom.0 }
-{
-    is_among(event.dels, atom)
 }
 
 /// Whether there is a write at the end of a window that ends later.
@@ -59,7 +39,7 @@ fn is_before(end: u128, last: Option<Write>) -> bool
 fn is_last(event: &Event<'_>, atom: AtomId, end: u128, time: u128, last: Option<Write>) -> bool
     ensures { result ≡ (writes (event_of event.now) atom.0 && (nat_le end time && not (has_later end last))) }
 {
-    (adds(event, atom) || deletes(event, atom)) && (end <= time && !is_before(end, last))
+    sets(event, atom) && (end <= time && !is_before(end, last))
 }
 
 /// The last write of an atom by a moment, with one more event that may write it.
@@ -82,7 +62,7 @@ fn with_event(
 
 /// The last write of an atom by a moment, with the events of one more step.
 fn with_step(last: Option<Write>, step: &BoxStep<'_>, atom: AtomId, time: u128) -> Option<Write>
-    ensures { (seen : List Point) (number : ℕ) → IsLastWrite seen atom.0 time last → IsLastWrite (seen ++ points_of_step number (step_of step.now)) atom.0 time result }
+    ensures { (seen : List Point) (number : ℕ) → IsLastWrite seen atom.0 time last → IsLastWrite (seen ++ points_of_owner (step_owner number (step_of step.now))) atom.0 time result }
 {
     let with_first = with_event(last, step.start, &step.first, atom, time);
     match &step.last {
@@ -91,9 +71,9 @@ fn with_step(last: Option<Write>, step: &BoxStep<'_>, atom: AtomId, time: u128) 
     }
 }
 
-/// The last write of an atom by a moment, if there is one.
-fn last_write(steps: &[BoxStep<'_>], atom: AtomId, time: u128) -> Option<Write>
-    ensures { IsLastWrite (points_from 1 (steps_of steps.now)) atom.0 time result }
+/// The last write of an atom by a moment among the events of steps, if there is one.
+fn with_steps(steps: &[BoxStep<'_>], atom: AtomId, time: u128) -> Option<Write>
+    ensures { IsLastWrite (points_of_owners (step_owners 1 (steps_of steps.now))) atom.0 time result }
 {
     let mut last = None;
     for step in steps {
@@ -102,16 +82,33 @@ fn last_write(steps: &[BoxStep<'_>], atom: AtomId, time: u128) -> Option<Write>
     last
 }
 
+/// The last write of an atom by a moment, with these events of the environment.
+fn with_timed(
+    first: Option<Write>,
+    timed: &[BoxTimed<'_>],
+    atom: AtomId,
+    time: u128,
+) -> Option<Write>
+    ensures { (seen : List Point) (number : ℕ) → IsLastWrite seen atom.0 time first → IsLastWrite (seen ++ points_of_owners (timed_owners number (timed_of timed.now))) atom.0 time result }
+{
+    let mut last = first;
+    for event in timed {
+        last = with_event(last, event.high, &event.event, atom, time);
+    }
+    last
+}
+
 /// What is certain of an atom at a moment, where no opposite writers of it may meet: the way of the
 /// writer whose window ends last by then, or else how it is at first.
 pub fn certain_value(boxed: &BoxRun<'_>, atom: AtomId, time: u128) -> bool
     requires atom { atom.0 < length boxed.now.initial }
-    requires clash { NoneClash (windows_in boxed.now) atom.0 }
+    requires clash { NoneClash (windows_in_run boxed.now) atom.0 }
     ensures certain { result ≡ certain_value_lem (plain_box boxed.now) atom.0 time }
-    ensures last { (p : Point) → IsLastWriter (windows_in boxed.now) atom.0 time p → result ≡ has p.event.adds atom.0 }
-    ensures initial { ((p : Point) → Contains (windows_in boxed.now).points p → sets_lem p atom.0 ≡ true → p.high ≤ time → ⊥) → result ≡ state_of_row boxed.now.initial atom.0 }
+    ensures last { (p : Point) → IsLastWriter (windows_in_run boxed.now) atom.0 time p → result ≡ has p.event.adds atom.0 }
+    ensures initial { ((p : Point) → Contains (windows_in_run boxed.now).points p → sets_lem p atom.0 ≡ true → p.high ≤ time → ⊥) → result ≡ state_of_row boxed.now.initial atom.0 }
 {
-    match last_write(boxed.steps.as_slice(), atom, time) {
+    let of_steps = with_steps(boxed.steps.as_slice(), atom, time);
+    match with_timed(of_steps, boxed.timed.as_slice(), atom, time) {
         Some(write) => write.adds,
         None => boxed.initial.get(atom),
     }

@@ -1,14 +1,15 @@
-//! Windows of a box: which points may meet, what is certain of an atom at a moment, and which steps are
-//! unsettled then.
+//! Windows of a box: when each event may come, which points may meet, what is certain of an atom at a moment,
+//! and which steps are unsettled then.
 #![tactic(auto)]
 
 pub mod certain;
 pub mod ends;
+pub mod laws;
 pub mod meeting;
+pub mod windows;
+pub mod writing;
 
 pub use certain::certain_value;
 pub use ends::unsettled;
 pub use meeting::{PointOf, is_there, may_meet};
-
-#[cfg(test)]
-mod tests;
+pub use windows::{Lasting, Window, lasting_of, windows_of};

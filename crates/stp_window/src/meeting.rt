@@ -1,10 +1,11 @@
 //! Points of a box, and whether two of them have a common moment.
 
 ghost use Rattle.std.specs.Prelude.{◌≡◌, ◌↔◌, Some, IfSome, IsSome, IsTrue, is_some};
-ghost use Rattle.stp_happen.specs.Boxes.{step_of, steps_of, plain_box};
-ghost use Rattle.stp_strength.specs.Failures.{may_meet as may_meet_lem};
+ghost use Rattle.stp_happen.specs.StepViews.{step_of, steps_of};
 ghost use Rattle.stp_window.specs.Points.{step_numbered, point_at, HaveMoment, IfBoth};
+ghost use Rattle.stp_window.specs.Windows.{may_meet as may_meet_lem};
 
+use crate::windows::{Bounds, bounds_meet};
 use stp_base::StepId;
 use stp_happen::{BoxRun, BoxStep};
 
@@ -32,7 +33,7 @@ fn is_numbered(steps: &[BoxStep<'_>], number: StepId) -> bool
 
 /// Whether a box has a point.
 pub fn is_there(boxed: &BoxRun<'_>, point: PointOf) -> bool
-    ensures { result ≡ is_some (point_at (plain_box boxed.now) point) }
+    ensures { result ≡ is_some (point_at (steps_of boxed.now.steps) point) }
 {
     let steps = boxed.steps.as_slice();
     match point {
@@ -44,31 +45,35 @@ pub fn is_there(boxed: &BoxRun<'_>, point: PointOf) -> bool
 }
 
 /// The least and the greatest moment of a point.
-fn window_of(boxed: &BoxRun<'_>, point: PointOf) -> (u128, u128)
-    requires { IsSome (point_at (plain_box boxed.now) point) }
-    ensures { IfSome (point_at (plain_box boxed.now) point) (λ p. (result.0 ≡ p.low) × (result.1 ≡ p.high)) }
+fn window_of(boxed: &BoxRun<'_>, point: PointOf) -> Bounds
+    requires { IsSome (point_at (steps_of boxed.now.steps) point) }
+    ensures { IfSome (point_at (steps_of boxed.now.steps) point) (λ p. (result.low ≡ p.low) × (result.high ≡ p.high)) }
 {
     let steps = boxed.steps.as_slice();
     match point {
         PointOf::First(number) => {
             let step = step_at(steps, number);
-            (step.start, step.start)
+            Bounds {
+                low: step.start,
+                high: step.start,
+            }
         }
         PointOf::Last(number) => {
             let step = step_at(steps, number);
-            (step.low, step.high)
+            Bounds {
+                low: step.low,
+                high: step.high,
+            }
         }
     }
 }
 
 /// Whether a moment lies in the windows of two points, both ends of a window being in it.
 pub fn may_meet(boxed: &BoxRun<'_>, one: PointOf, other: PointOf) -> bool
-    requires one { IsSome (point_at (plain_box boxed.now) one) }
-    requires other { IsSome (point_at (plain_box boxed.now) other) }
-    ensures moment { IfBoth (point_at (plain_box boxed.now) one) (point_at (plain_box boxed.now) other) (λ p q. IsTrue result ↔ HaveMoment p q) }
-    ensures windows { IfBoth (point_at (plain_box boxed.now) one) (point_at (plain_box boxed.now) other) (λ p q. result ≡ may_meet_lem p q) }
+    requires one { IsSome (point_at (steps_of boxed.now.steps) one) }
+    requires other { IsSome (point_at (steps_of boxed.now.steps) other) }
+    ensures moment { IfBoth (point_at (steps_of boxed.now.steps) one) (point_at (steps_of boxed.now.steps) other) (λ p q. IsTrue result ↔ HaveMoment p q) }
+    ensures windows { IfBoth (point_at (steps_of boxed.now.steps) one) (point_at (steps_of boxed.now.steps) other) (λ p q. result ≡ may_meet_lem p q) }
 {
-    let (one_low, one_high) = window_of(boxed, one);
-    let (other_low, other_high) = window_of(boxed, other);
-    one_low <= other_high && other_low <= one_high
+    bounds_meet(window_of(boxed, one), window_of(boxed, other))
 }

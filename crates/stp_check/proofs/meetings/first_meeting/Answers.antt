@@ -1,6 +1,6 @@
 use Rattle.std.proofs.Common.{refl, sym}
 use Rattle.stp_happen.proofs.Members.{member_map}
-use Rattle.stp_strength.specs.Views.{point_of}
+use Rattle.stp_window.specs.Views.{point_of}
 use Rattle.stp_check.proofs.meetings.first_meeting.Goals as goal
 
 pub returns-in-Some : goal.returns-in-Some

@@ -1,7 +1,7 @@
 use Rattle.std.proofs.Common.{◌≡◌, drop}
 use Rattle.std.specs.List.{list_all}
+use Rattle.stp_window.specs.Views.{points_of}
 use Rattle.stp_strength.specs.Failures.{stay_calm}
-use Rattle.stp_strength.specs.Views.{points_of}
 use Rattle.stp_check.proofs.meetings.first_meeting.Given as goal
 
 abbrev pub invariant-loop-one : goal.invariant-loop-one

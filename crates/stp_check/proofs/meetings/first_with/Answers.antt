@@ -1,6 +1,6 @@
 use Rattle.std.proofs.Common.{sym, ◌∙◌}
 use Rattle.stp_happen.proofs.Members.{member_map}
-use Rattle.stp_strength.specs.Views.{point_of}
+use Rattle.stp_window.specs.Views.{point_of}
 use Rattle.stp_check.proofs.meetings.first_with.Goals as goal
 
 pub returns-then-not-stay_calm : goal.returns-then-not-stay_calm

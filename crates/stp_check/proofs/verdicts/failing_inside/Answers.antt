@@ -1,10 +1,10 @@
 use Rattle.std.proofs.Common.{List, ap, ◌∙◌}
 use Rattle.stp_base.specs.declared.ids.StepId.{StepId}
-use Rattle.stp_happen.specs.Boxes.{plain_box}
-use Rattle.stp_strength.specs.Steps.{durations_of}
-use Rattle.stp_inside.specs.Late.{numbers_of}
-use Rattle.stp_inside.proofs.InBoxes.{these_are_proper, kept_in_boxes}
+use Rattle.stp_happen.specs.OwnedViews.{plain_owned}
+use Rattle.stp_strength.specs.Vectors.{vector_of}
 use Rattle.stp_check.specs.Choices.{late}
+use Rattle.stp_check.specs.Late.{numbers_of}
+use Rattle.stp_check.proofs.InBoxes.{these_are_proper, kept_in_boxes}
 use Rattle.stp_check.proofs.Judged.{broken_box_fails}
 use Rattle.stp_check.proofs.verdicts.failing_inside.Goals as goal
 
@@ -18,4 +18,4 @@ pub returns : goal.returns
 returns c =
     let boxed = c.args.boxed.now in
     broken_box_fails boxed c.args.windows.now c.args.spans.now (record { windows_are = c.requires.windows; spans_are = c.requires.spans }) c.requires.calm (numbers_of c.in-Some.late) (rw c.in-Some.is at c.in_ok-late.ensures) c.in_ok-broken.broken
-    (c.in_ok-broken.ensures.chosen ∙ ap (λ (ss : List StepId). durations_of (plain_box boxed) (late (numbers_of ss))) c.as_slice.ensures)
+    (c.in_ok-broken.ensures.chosen ∙ ap (λ (ss : List StepId). vector_of (plain_owned boxed) (late (numbers_of ss))) c.as_slice.ensures)

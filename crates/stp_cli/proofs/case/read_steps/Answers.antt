@@ -32,14 +32,14 @@ returns-in-Err-box_placed-clause-refused c = λ r was.
 
 pub returns-clause-ok : goal.returns-clause-ok
 returns-clause-ok c =
-    let task = problem_of c.args.problem.now in
+    let read = problem_of c.args.problem.now in
     let steps = map plain_placed c.in-Ok-place.placed in
-    let there : placed_from 1 task (plain_plan c.in-Ok.lines) ≡ Ok steps = subst (λ p. placed_from 1 p (plain_plan c.in-Ok.lines) ≡ Ok steps) c.in_ok-world.ensures c.in-Ok-place.ensures.placed in
-    let same : problem_in c.place.new.world ≡ task = c.in-Ok-place.ensures.same ∙ c.in_ok-world.ensures in (
+    let there : placed_from 1 read (plain_plan c.in-Ok.lines) ≡ Ok steps = subst (λ p. placed_from 1 p (plain_plan c.in-Ok.lines) ≡ Ok steps) c.in_ok-world.ensures c.in-Ok-place.ensures.placed in
+    let same : problem_in c.place.new.world ≡ read = c.in-Ok-place.ensures.same ∙ c.in_ok-world.ensures in (
       steps,
-      are_steps task c.args.plan.now (plain_plan c.in-Ok.lines) c.in-Ok.ensures.ok steps there (ap (λ l. beyond_limits (map plain_placed l)) (sym c.as_slice.ensures) ∙ c.in-Ok-box_placed.ensures.limits),
+      are_steps read c.args.plan.now (plain_plan c.in-Ok.lines) c.in-Ok.ensures.ok steps there (ap (λ l. beyond_limits (map plain_placed l)) (sym c.as_slice.ensures) ∙ c.in-Ok-box_placed.ensures.limits),
       record {
-        box = c.in-Ok-box_placed.ensures.stands ∙ ap (λ p. box_of_plan p (map plain_placed c.as_slice.result.now)) same ∙ ap (λ l. box_of_plan task (map plain_placed l)) c.as_slice.ensures;
+        box = c.in-Ok-box_placed.ensures.stands ∙ ap (λ p. box_of_plan p (map plain_placed c.as_slice.result.now)) same ∙ ap (λ l. box_of_plan read (map plain_placed l)) c.as_slice.ensures;
         grid = c.in-Ok-box_placed.ensures.grid ∙ ap (λ l. grid_of_plan (map plain_placed l)) c.as_slice.ensures;
         times = c.in_ok-times.ensures.times ∙ ap (λ l. places.times_of (map plain_placed l)) c.as_slice-2.ensures;
         lawful = c.in_ok-times.ensures.lawful;

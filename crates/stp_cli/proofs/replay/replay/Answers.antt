@@ -2,7 +2,7 @@ use Rattle.std.proofs.Common.{◌≡◌, true, Ok, map, length, sym, ap, subst, 
 use Rattle.std.specs.Prelude.{All}
 use Rattle.std.proofs.lemmas.Result.{IfOk-weaker}
 use Rattle.stp_frac.specs.Fractions.{value_of}
-use Rattle.stp_timing.specs.Timed.{plain_timed, is_lawful_timed}
+use Rattle.stp_exec.specs.Timed.{plain_timed, is_lawful_timed}
 use Rattle.stp_cli.proofs.Verdicts.{grid_low, grid_high}
 use Rattle.stp_cli.proofs.Replays.{base_is, made_factor_pos, made_vector, made_replayed}
 use Rattle.stp_cli.proofs.replay.replay.Goals as goal

@@ -1,18 +1,23 @@
-use Rattle.std.proofs.Common.{inr, refl, ◌∙◌}
-use Rattle.stp_report.specs.Texts.{text_of}
-use Rattle.stp_cli.proofs.Writing.{same_front}
+use Rattle.std.proofs.Common.{map, string_bytes}
+use Rattle.stp_cli.specs.Calls.{store_call, sink_call}
+use Rattle.stp_cli.proofs.Headlines.{headline_of_outcome, complete_outcome}
 use Rattle.stp_cli.proofs.top.run.Goals as goal
 
-pub returns-clause-outcome : goal.returns-clause-outcome
-returns-clause-outcome g c =
-    let written = g.K.Sink.written in
-    let (answer, allowed, status, text) = c.in-Ok.ensures.reply in
-    inr (
-      answer,
-      allowed,
-      inr (record {
-        ended = refl;
-        counted = c.in-Err.ensures.counted;
-        text = same_front (written c.args.sink.now) (written c.write_all.new.sink) c.as_slice.result.now (text_of answer) (c.as_slice.ensures ∙ text) c.in-Err.ensures.front;
-      }),
-    )
+-- the headline follows from the causes of answers
+pub returns-clause-headline : goal.returns-clause-headline
+returns-clause-headline g c =
+    headline_of_outcome
+    (store_call g.S.Store.files g.S.Store.steady g.S.Store.faults c.args.store.now c.answer_words.new.store)
+    (sink_call g.K.Sink.written g.K.Sink.faults c.args.sink.now c.answer_words.new.sink)
+    (map string_bytes c.args.words.now)
+    c.answer_words.result
+    c.answer_words.ensures.outcome
+
+pub returns-clause-complete : goal.returns-clause-complete
+returns-clause-complete g c =
+    complete_outcome
+    (store_call g.S.Store.files g.S.Store.steady g.S.Store.faults c.args.store.now c.answer_words.new.store)
+    (sink_call g.K.Sink.written g.K.Sink.faults c.args.sink.now c.answer_words.new.sink)
+    (map string_bytes c.args.words.now)
+    c.answer_words.result
+    c.answer_words.ensures.outcome

@@ -3,14 +3,14 @@ use Rattle.std.proofs.lemmas.List.{map-append}
 use Rattle.std.proofs.lemmas.Bool.Decides.{nat_tests}
 use Rattle.stp_text.specs.Tree.{view}
 use Rattle.stp_text.proofs.Equations.{view_word, view_items}
-use Rattle.stp_offence.proofs.Reading.{views_more, views_end, continues_next, continues_done, mapped, paired}
-use Rattle.stp_offence.proofs.Items.{views_none, views_head}
+use Rattle.stp_refusal.proofs.Reading.{continues_next, continues_done, mapped, paired}
+use Rattle.stp_text.proofs.Items.{views_none, views_head, views_more, views_end}
 use Rattle.stp_schema.specs.Known.{known}
-use Rattle.stp_schema.specs.Formula.{Negation}
+use Rattle.stp_schema.specs.Formula.{Not}
 use Rattle.stp_condition.specs.Conditions.{implied, condition_read}
 use Rattle.stp_condition.specs.Variables.{variables_read}
-use Rattle.stp_condition.proofs.Made.{formula_and}
-use Rattle.stp_condition.proofs.Reading.{read_word, read_empty, read_listed, read_headed, items_more, items_end, one_item, no_one_item, two_items, no_two_items}
+use Rattle.stp_schema.proofs.Equations.{formula_and}
+use Rattle.stp_condition.proofs.ReadingConditions.{read_word, read_empty, read_listed, read_headed, items_more, items_end, one_item, no_one_item, two_items, no_two_items}
 use Rattle.stp_condition.proofs.Then.{quantified_is}
 use Rattle.stp_condition.proofs.condition.+conditions.Goals as goal
 use Rattle.stp_condition.proofs.condition.+conditions.Goals.{read_implication-in_default-via-then-items-lt2, read_implication-in_default-via-else-items-lt2+else-items-lt3, read_quantified-in_default-via-then-items-lt2, read_quantified-in_default-via-else-items-lt2+else-items-lt3, read_list-in_default-via-then-items-lt1, read_list-in_default-via-else-items-lt1+else-items-lt2}
@@ -55,7 +55,7 @@ read_list-returns-in_default-clause-value t c =
 pub read_list-returns-in_ok-condition-in-Not-clause-value : goal.read_list-returns-in_ok-condition-in-Not-clause-value
 read_list-returns-in_ok-condition-in-Not-clause-value t c =
     rw (sym c.in-Not.ensures, one_item (known c.args.declared.now c.args.objects.now.rows.now) c.args.items.now c.inner-item.result (omega arith) c.inner-item.is)
-    (mapped Negation _ _ _ _ _ c.in_ok-condition-in-Not.ensures c.in_ok-inner-in-Not.ensures.value)
+    (mapped Not _ _ _ _ _ c.in_ok-condition-in-Not.ensures c.in_ok-inner-in-Not.ensures.value)
 
 pub read_quantified-returns-in_default-clause-value : goal.read_quantified-returns-in_default-clause-value
 read_quantified-returns-in_default-clause-value t c =

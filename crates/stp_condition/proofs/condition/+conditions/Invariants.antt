@@ -1,6 +1,6 @@
 use Rattle.std.proofs.Common.{◌≡◌, map, drop}
 use Rattle.stp_text.specs.Tree.{views}
-use Rattle.stp_offence.specs.Read.{Continues}
+use Rattle.stp_refusal.specs.Read.{Continues}
 use Rattle.stp_schema.specs.Formula.{formula}
 use Rattle.stp_schema.specs.Known.{known}
 use Rattle.stp_condition.specs.Conditions.{all_read, items_read}

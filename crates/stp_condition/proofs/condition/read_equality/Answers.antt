@@ -1,12 +1,12 @@
 use Rattle.std.proofs.Common.{◌≡◌, arith, length}
 use Rattle.std.proofs.lemmas.Bool.Decides.{nat_tests}
 use Rattle.stp_text.specs.Tree.{views}
-use Rattle.stp_offence.proofs.Items.{no_two}
-use Rattle.stp_offence.proofs.Reading.{paired}
-use Rattle.stp_schema.specs.Formula.{Equal}
+use Rattle.stp_text.proofs.Items.{no_two}
+use Rattle.stp_refusal.proofs.Reading.{paired}
+use Rattle.stp_schema.specs.Formula.{Same}
 use Rattle.stp_schema.specs.Known.{known}
-use Rattle.stp_condition.proofs.Made.{formula_same}
-use Rattle.stp_condition.proofs.Reading.{two_words, of_words}
+use Rattle.stp_schema.proofs.Equations.{formula_same}
+use Rattle.stp_condition.proofs.ReadingConditions.{two_words, of_words}
 use Rattle.stp_condition.proofs.condition.read_equality.Goals as goal
 use Rattle.stp_condition.proofs.condition.read_equality.Goals.{in_default-via-then-items-lt2, in_default-via-else-items-lt2+else-items-lt3}
 
@@ -18,4 +18,4 @@ returns-in_default c =
 pub returns : goal.returns
 returns c =
     rw (of_words (known c.args.declared.now c.args.objects.now.rows.now) c.args.scope.now c.args.at (views c.args.items.now) c.if-has_list.ensures, two_words c.args.items.now c.one-item.result c.other-item.result (omega arith) c.one-item.is c.other-item.is)
-    (paired Equal _ _ _ _ _ _ _ _ (formula_same _ _) c.read_term-one.ensures c.read_term-other.ensures)
+    (paired Same _ _ _ _ _ _ _ _ (formula_same _ _) c.read_term-one.ensures c.read_term-other.ensures)

@@ -1,4 +1,4 @@
-use Rattle.stp_condition.proofs.Typed.{condition_typed}
+use Rattle.stp_condition.proofs.TypedConditions.{condition_typed}
 use Rattle.stp_condition.proofs.laws.read_condition_is_typed.Goals as goal
 
 pub returns : goal.returns

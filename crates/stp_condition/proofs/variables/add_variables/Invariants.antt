@@ -1,8 +1,8 @@
 use Rattle.std.proofs.Common.{◌≡◌, ◌++◌, drop}
-use Rattle.stp_offence.specs.Read.{Continues, map_read}
-use Rattle.stp_lists.specs.Entries.{plains}
+use Rattle.stp_refusal.specs.Read.{Continues, map_read}
+use Rattle.stp_domain_parts.specs.Entries.{plains}
 use Rattle.stp_schema.specs.Rows.{type_names_of}
-use Rattle.stp_term.specs.Scope.{kinds_of}
+use Rattle.stp_condition.specs.Scope.{kinds_of}
 use Rattle.stp_condition.specs.Variables.{typed_read}
 use Rattle.stp_condition.proofs.variables.add_variables.Given as goal
 

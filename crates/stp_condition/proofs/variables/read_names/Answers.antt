@@ -1,12 +1,12 @@
 use Rattle.std.proofs.Common.{◌≡◌, ℕ, List, [], Option}
-use Rattle.stp_offence.specs.declared.code.Code.TheVariants.{D16}
-use Rattle.stp_offence.specs.declared.offence.Offence.{Offence}
-use Rattle.stp_offence.specs.First.{first_from}
-use Rattle.stp_offence.proofs.Reading.{also_is}
-use Rattle.stp_lists.specs.declared.entry.Entry.{Entry}
-use Rattle.stp_lists.specs.declared.judged.WordKind.TheVariants.{Variable}
-use Rattle.stp_lists.specs.Entries.{plains}
-use Rattle.stp_lists.specs.Judged.{names_wrong}
+use Rattle.stp_refusal.specs.declared.code.Code.TheVariants.{D16}
+use Rattle.stp_refusal.specs.declared.offence.Offence.{Offence}
+use Rattle.stp_refusal.specs.First.{first_from}
+use Rattle.stp_refusal.proofs.Reading.{also_is}
+use Rattle.stp_domain_parts.specs.declared.entry.Entry.{Entry}
+use Rattle.stp_domain_parts.specs.declared.judged.WordKind.TheVariants.{Variable}
+use Rattle.stp_domain_parts.specs.Entries.{plains}
+use Rattle.stp_domain_parts.specs.Judged.{names_wrong}
 use Rattle.stp_condition.proofs.variables.read_names.Goals as goal
 
 -- no name was seen before

@@ -1,7 +1,7 @@
 use Rattle.stp_text.specs.Tree.{views}
 use Rattle.stp_text.proofs.Equations.{view_items}
 use Rattle.stp_schema.specs.Rows.{type_names_of}
-use Rattle.stp_term.specs.Scope.{kinds_of}
+use Rattle.stp_condition.specs.Scope.{kinds_of}
 use Rattle.stp_condition.specs.Variables.{names_read, typed_read}
 use Rattle.stp_condition.proofs.Then.{then_mapped}
 use Rattle.stp_condition.proofs.variables.read_variables.Goals as goal

@@ -1,5 +1,5 @@
 use Rattle.std.proofs.Common.{refl}
-use Rattle.stp_offence.proofs.Reading.{paired}
+use Rattle.stp_refusal.proofs.Reading.{paired}
 use Rattle.stp_domain.specs.Bodies.{simple_body}
 use Rattle.stp_domain.proofs.body.read_simple.Goals as goal
 

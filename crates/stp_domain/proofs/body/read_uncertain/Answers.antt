@@ -1,4 +1,4 @@
-use Rattle.stp_offence.proofs.Reading.{mapped, paired}
+use Rattle.stp_refusal.proofs.Reading.{mapped, paired}
 use Rattle.stp_domain.specs.Bodies.{suffered_timing, durative_body}
 use Rattle.stp_domain.proofs.body.read_uncertain.Goals as goal
 

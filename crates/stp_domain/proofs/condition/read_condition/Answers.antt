@@ -1,6 +1,6 @@
 use Rattle.std.proofs.Common.{[], map, Err, ap, sym, ◌∙◌}
 use Rattle.stp_text.specs.Tree.{view}
-use Rattle.stp_offence.specs.First.{first_of}
+use Rattle.stp_refusal.specs.First.{first_of}
 use Rattle.stp_schema.specs.Rows.{thing_of}
 use Rattle.stp_schema.specs.Known.{known}
 use Rattle.stp_condition.specs.Whole.{texts_of, scope_with}

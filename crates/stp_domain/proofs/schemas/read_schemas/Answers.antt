@@ -1,10 +1,10 @@
 use Rattle.std.proofs.Common.{arith, []}
 use Rattle.std.proofs.lemmas.List.{map-append}
 use Rattle.stp_base.proofs.Mapped.{mapped_next, mapped_done}
-use Rattle.stp_offence.proofs.Reading.{continues_next, continues_done}
-use Rattle.stp_declared.specs.ActionRows.{action_shape_of}
-use Rattle.stp_declared.specs.declared.action_row.ActionRow.{ActionRow}
-use Rattle.stp_declared.proofs.Slices.{no_parts, map_drop}
+use Rattle.stp_refusal.proofs.Reading.{continues_next, continues_done}
+use Rattle.stp_domain_tables.specs.ActionRows.{action_shape_of}
+use Rattle.stp_domain_tables.specs.declared.action_row.ActionRow.{ActionRow}
+use Rattle.stp_domain_tables.proofs.Slices.{no_parts, map_drop}
 use Rattle.stp_domain.proofs.Lists.{mapped_past}
 use Rattle.stp_domain.proofs.schemas.read_schemas.Goals as goal
 

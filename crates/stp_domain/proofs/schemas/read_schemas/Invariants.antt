@@ -1,8 +1,8 @@
 use Rattle.std.proofs.Common.{◌≡◌, ◌++◌, map, drop}
-use Rattle.stp_offence.specs.Read.{Continues}
+use Rattle.stp_refusal.specs.Read.{Continues}
 use Rattle.stp_schema.specs.Known.{known}
 use Rattle.stp_schema.specs.Schemas.{schema_of, schema_names_of}
-use Rattle.stp_declared.specs.ActionRows.{action_shape_of, row_names_of}
+use Rattle.stp_domain_tables.specs.ActionRows.{action_shape_of, row_names_of}
 use Rattle.stp_domain.specs.Schemas.{schemas_read}
 use Rattle.stp_domain.proofs.schemas.read_schemas.Given as goal
 

@@ -3,7 +3,7 @@ use Rattle.std.proofs.lemmas.Result.{err_from_is_err_and}
 use Rattle.stp_schema.specs.Views.{PlainProblem, problem_of}
 use Rattle.stp_plan.specs.Views.{plain_plan}
 use Rattle.stp_ground.specs.Worlds.{problem_in}
-use Rattle.stp_happen.specs.Boxes.{plain_box}
+use Rattle.stp_happen.specs.BoxViews.{plain_box}
 use Rattle.stp_exec.specs.declared.placed.Placed.{Placed}
 use Rattle.stp_exec.specs.Placed.{placed_from}
 use Rattle.stp_exec.specs.Views.{plain_placed}

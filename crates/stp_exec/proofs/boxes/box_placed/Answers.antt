@@ -2,8 +2,8 @@ use Rattle.std.proofs.Common.{◌≡◌, ℕ, ◌≤◌, true, length, map, sym,
 use Rattle.std.specs.List.{All}
 use Rattle.std.proofs.lemmas.Result.{err_from_is_err_and}
 use Rattle.stp_ground.specs.Worlds.{problem_in}
-use Rattle.stp_timing.specs.declared.timed.TimedStep.{TimedStep}
-use Rattle.stp_timing.specs.Timed.{plain_timed, is_lawful_timed, base_grid}
+use Rattle.stp_exec.specs.declared.timed_step.TimedStep.{TimedStep}
+use Rattle.stp_exec.specs.Timed.{plain_timed, is_lawful_timed, base_grid}
 use Rattle.stp_exec.specs.Placed.{times_of}
 use Rattle.stp_exec.specs.Views.{plain_placed}
 use Rattle.stp_exec.specs.Plans.{grid_of_plan, box_on}

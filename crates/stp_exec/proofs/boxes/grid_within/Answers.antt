@@ -1,5 +1,5 @@
 use Rattle.std.proofs.Common.{map}
-use Rattle.stp_timing.specs.Timed.{plain_timed}
+use Rattle.stp_exec.specs.Timed.{plain_timed}
 use Rattle.stp_exec.proofs.Limits.{fine_beyond, none_beyond, all_timely}
 use Rattle.stp_exec.proofs.boxes.grid_within.Goals as goal
 

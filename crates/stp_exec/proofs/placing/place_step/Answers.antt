@@ -1,9 +1,9 @@
 use Rattle.std.proofs.Common.{not, sym, ap, subst}
 use Rattle.stp_frac.specs.Fractions.{value_of, is_below_zero}
 use Rattle.stp_frac.proofs.Divisors.{both_true}
-use Rattle.stp_value.specs.Durations.{plain_duration}
+use Rattle.stp_task.specs.Durations.{plain_duration}
 use Rattle.stp_plan.specs.Views.{plain_bracket}
-use Rattle.stp_timing.specs.Held.{plain_held, is_lawful_held}
+use Rattle.stp_exec.specs.Held.{plain_held, is_lawful_held}
 use Rattle.stp_exec.proofs.Fitting.{AnswerFits, held_fits}
 use Rattle.stp_exec.proofs.placing.place_step.Goals as goal
 

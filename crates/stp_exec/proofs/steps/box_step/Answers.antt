@@ -1,11 +1,11 @@
 use Rattle.std.proofs.Common.{◌≡◌, sym, refl, ◌∙◌}
 use Rattle.std.specs.Prelude.{is_some}
-use Rattle.stp_value.specs.Durations.{plain_duration}
+use Rattle.stp_task.specs.Durations.{plain_duration}
 use Rattle.stp_ground.specs.Ground.{action_by}
 use Rattle.stp_ground.specs.Views.{chosen_view}
 use Rattle.stp_ground.specs.Worlds.{problem_in}
-use Rattle.stp_timing.specs.Held.{plain_held}
-use Rattle.stp_timing.specs.Timed.{plain_timed}
+use Rattle.stp_exec.specs.Held.{plain_held}
+use Rattle.stp_exec.specs.Timed.{plain_timed}
 use Rattle.stp_exec.specs.Times.{takes_time}
 use Rattle.stp_exec.specs.Plans.{step_with}
 use Rattle.stp_exec.proofs.Stepping.{step_is, finish_is, lasting_is, certain_is, instant_is}

@@ -3,7 +3,7 @@ use Rattle.std.specs.List.{All}
 use Rattle.std.proofs.lemmas.List.{length_push}
 use Rattle.std.proofs.lemmas.List.Elements.{All-push}
 use Rattle.stp_ground.specs.Worlds.{problem_in}
-use Rattle.stp_timing.specs.Timed.{plain_timed}
+use Rattle.stp_exec.specs.Timed.{plain_timed}
 use Rattle.stp_happen.specs.declared.boxes.BoxStep.{BoxStep}
 use Rattle.stp_happen.specs.SoundBox.{IsBoxStep}
 use Rattle.stp_exec.specs.declared.placed.Placed.{Placed}

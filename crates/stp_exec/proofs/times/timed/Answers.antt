@@ -1,8 +1,8 @@
 use Rattle.std.proofs.Common.{◌≡◌, map, sym, ap, subst, ◌∙◌, arith, true}
 use Rattle.std.specs.List.{All}
 use Rattle.std.proofs.lemmas.List.{take_all}
-use Rattle.stp_timing.specs.declared.timed.TimedStep.{TimedStep}
-use Rattle.stp_timing.specs.Timed.{plain_timed, is_lawful_timed}
+use Rattle.stp_exec.specs.declared.timed_step.TimedStep.{TimedStep}
+use Rattle.stp_exec.specs.Timed.{plain_timed, is_lawful_timed}
 use Rattle.stp_exec.proofs.Limits.{timed_of, times_are, times_are_lawful}
 use Rattle.stp_exec.proofs.times.timed.Goals as goal
 

@@ -1,7 +1,7 @@
 -- The objects so far, and then those of the names that are left, are all.
 use Rattle.std.proofs.Common.{◌≡◌, drop}
 use Rattle.stp_schema.specs.Views.{problem_of}
-use Rattle.stp_binding.specs.Bindings.{numbers_of}
+use Rattle.stp_instance.specs.Bindings.{numbers_of}
 use Rattle.stp_ground.specs.Chosen.{arguments}
 use Rattle.stp_ground.proofs.Bound.{joined}
 use Rattle.stp_ground.proofs.arguments.arguments.Given as goal

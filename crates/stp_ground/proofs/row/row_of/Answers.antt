@@ -1,7 +1,7 @@
 use Rattle.std.proofs.Common.{◌≡◌, false, length, replicate, ap, ◌∙◌, arith}
 use Rattle.std.specs.Prelude.{is_some, slice_set}
 use Rattle.stp_base.specs.declared.ids.AtomId.{AtomId}
-use Rattle.stp_atoms.specs.Atoms.{atom_with}
+use Rattle.stp_tables.specs.Atoms.{atom_with}
 use Rattle.stp_instance.specs.Numbered.{is_in}
 use Rattle.stp_ground.proofs.Rows.{filled, filled_all, filled_long, filled_more, filled_none, some_kept}
 use Rattle.stp_ground.proofs.row.row_of.Goals as goal
@@ -25,7 +25,7 @@ loop-number-preserved c =
     c.set.ensures
     ∙ ap (λ l. slice_set l n c.is_some.result) c.loop-number.invariant
     ∙ ap (slice_set (filled f table n) n) (c.is_some.ensures ∙ some_kept (λ (a : AtomId). a.0) c.find.result ∙ ap is_some c.find.ensures.number)
-    ∙ filled_more f table n atom c.get-predicate.ensures
+    ∙ filled_more f table n atom c.get-predicate.ensures.atom
 
 pub returns : goal.returns
 returns c =

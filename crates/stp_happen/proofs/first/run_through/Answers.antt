@@ -23,7 +23,7 @@ loop-start-preserved c =
     let is = moment_is entries start end c.index-entries-start.result (get_or entries start c.index-entries-start.result).time ends.within.0 ends.within.1 refl kept.parted ends.same ends.later in
     let parts = parted entries start end up in
     let all = taken entries start end up in
-    let row = state_next c.args.row.now T D M L _ is all (state_of_row c.loop-start.row) (state_of_row c.take_moment-firsts.new.row) kept.state then.state in
+    let row = state_next (state_of_row c.args.row.now) T D M L _ is all (state_of_row c.loop-start.row) (state_of_row c.take_moment-firsts.new.row) kept.state then.state in
     record {
       within = ends.within.1;
       len = then.len ∙ kept.len;

@@ -17,7 +17,7 @@ invariant-loop-start l =
       within : l.start ≤ length l.entries;
       len : length l.row ≡ length l.fn.row;
       parted : (k j : ℕ) (d : Entry) → k < l.start → l.start ≤ j → j < length l.entries → (get_or l.entries k d).time < (get_or l.entries j d).time;
-      state : (a : ℕ) → state_of_row l.row a ≡ state_after l.fn.row (entries_of (take l.start l.entries)) a;
+      state : (a : ℕ) → state_of_row l.row a ≡ state_after (state_of_row l.fn.row) (entries_of (take l.start l.entries)) a;
       interference : l.firsts.interference ≡ first_of (flat_map (λ e. filter_map (interference_of e) (entries_of l.entries)) (entries_of (take l.start l.entries)));
       condition : l.firsts.condition ≡ first_of (filter_map (λ e. condition_in (before run e.time) e) (entries_of (take l.start l.entries)));
       over_all : l.firsts.over_all ≡ first_of (flat_map (λ e. filter_map (over_all_in (after run e.time) e.time) (spans_of l.spans)) (entries_of (take l.start l.entries)));

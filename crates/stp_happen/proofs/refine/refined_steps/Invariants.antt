@@ -1,6 +1,7 @@
 use Rattle.std.proofs.Common.{◌≡◌, ℕ, ◌*◌, ◌++◌, drop, map, All}
 use Rattle.stp_happen.specs.SoundBox.{IsBoxStep}
-use Rattle.stp_happen.specs.Boxes.{steps_of, finer_step}
+use Rattle.stp_happen.specs.Owners.{finer_step}
+use Rattle.stp_happen.specs.StepViews.{steps_of}
 use Rattle.stp_happen.proofs.refine.refined_steps.Given as goal
 
 abbrev pub invariant-loop-step : goal.invariant-loop-step

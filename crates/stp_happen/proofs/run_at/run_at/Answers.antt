@@ -1,57 +1,11 @@
-use Rattle.std.proofs.Common.{refl}
-use Rattle.std.proofs.Math.Logic.{∥∥₁_map}
-use Rattle.stp_happen.specs.Views.{run_of}
-use Rattle.stp_happen.specs.Boxes.{plain_box, run_under}
-use Rattle.stp_happen.specs.Orders.{IsInSomeOrder}
-use Rattle.stp_happen.proofs.Alike.{order_is_free, alike_in_order}
-use Rattle.stp_happen.proofs.FaultLists.{first_fault_is_free_of_order}
-use Rattle.stp_happen.proofs.RunOfBox.{AreParts, in_some_order, run_is_sound, parts_read}
+use Rattle.std.proofs.Common.{◌↔◌, IfOk, subst}
+use Rattle.stp_happen.specs.declared.fault.Fault.{Fault}
+use Rattle.stp_happen.specs.Boxes.{run_under}
+use Rattle.stp_happen.specs.Faults.{IsFirstFault}
+use Rattle.stp_happen.specs.Runs.{plain_run}
 use Rattle.stp_happen.proofs.run_at.run_at.Goals as goal
 
-pub invariant_of-result : goal.invariant_of-result
-invariant_of-result c =
-    let box = c.args.boxed.now in
-    let ds = c.args.vector.now in
-    let read = c.as_slice-steps.result.now in
-    let es = c.in_ok-entries_at.field-0.items in
-    let os = c.in_ok-entries.entries in
-    let ss = c.in_ok-spans.spans in
-    let parts : AreParts read ds es os ss = record {
-      entries = c.in_ok-entries_at.ensures.entries;
-      spans = c.in_ok-spans.ensures.spans;
-      moves = c.in_ok-entries.ensures.same;
-      sorted = c.in_ok-entries.ensures.sorted;
-      entries_in_range = c.in_ok-entries_at.ensures.in_range;
-      spans_in_range = c.in_ok-spans.ensures.in_range;
-    } in
-    record {
-      sound = ∥∥₁_map box.sound (λ b.
-          run_is_sound box.grid box.steps box.initial box.goal.now b ds c.requires es os ss (parts_read read box.steps c.as_slice-steps.ensures ds es os ss parts) c.in_ok-initial.initial c.in_ok-initial.ensures);
-    }
-
-pub returns : goal.returns
-returns c =
-    let box = c.args.boxed.now in
-    let ds = c.args.vector.now in
-    let read = c.as_slice-steps.result.now in
-    let es = c.in_ok-entries_at.field-0.items in
-    let os = c.in_ok-entries.entries in
-    let ss = c.in_ok-spans.spans in
-    let parts : AreParts read ds es os ss = record {
-      entries = c.in_ok-entries_at.ensures.entries;
-      spans = c.in_ok-spans.ensures.spans;
-      moves = c.in_ok-entries.ensures.same;
-      sorted = c.in_ok-entries.ensures.sorted;
-      entries_in_range = c.in_ok-entries_at.ensures.in_range;
-      spans_in_range = c.in_ok-spans.ensures.in_range;
-    } in
-    let run = run_of os ss c.in_ok-initial.initial box.goal.now in
-    let same : IsInSomeOrder run (run_under (plain_box box) ds) =
-    in_some_order box.steps ds es os ss (parts_read read box.steps c.as_slice-steps.ensures ds es os ss parts) c.in_ok-initial.initial box.initial c.in_ok-initial.ensures box.goal.now in
-    let alike = alike_in_order run (run_under (plain_box box) ds) same in
-    record {
-      run = same;
-      grid = refl;
-      executes = order_is_free run (run_under (plain_box box) ds) alike;
-      first_fault = λ f. first_fault_is_free_of_order run (run_under (plain_box box) ds) f alike;
-    }
+-- the box of owners is the box
+pub returns-clause-first_fault : goal.returns-clause-first_fault
+returns-clause-first_fault c =
+    subst (λ b. IfOk c.run_by_owners.result (λ r. (f : Fault) → IsFirstFault (plain_run r) f ↔ IsFirstFault (run_under b c.args.vector.now) f)) c.in_ok-owned.ensures.same c.run_by_owners.ensures.first_fault

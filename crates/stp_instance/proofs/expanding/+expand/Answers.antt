@@ -1,7 +1,7 @@
 use Rattle.std.proofs.Common.{◌++◌, ◌∙◌, ap, sym, map}
 use Rattle.std.proofs.lemmas.List.{length-map}
 use Rattle.stp_schema.specs.Formula.{formula}
-use Rattle.stp_binding.specs.Bindings.{numbers_of, objects_of}
+use Rattle.stp_instance.specs.Bindings.{numbers_of, objects_of}
 use Rattle.stp_instance.specs.Expanded.{bindings_of, expanded}
 use Rattle.stp_instance.specs.Typing.{objects_in}
 use Rattle.stp_instance.specs.Views.{claim}

@@ -1,7 +1,7 @@
 -- What is expanded so far, and what is left, is all; the binding is as it was.
 use Rattle.std.proofs.Common.{◌≡◌, ◌++◌, map, drop, length}
 use Rattle.stp_schema.specs.Formula.{formula}
-use Rattle.stp_binding.specs.Bindings.{numbers_of}
+use Rattle.stp_instance.specs.Bindings.{numbers_of}
 use Rattle.stp_instance.specs.Expanded.{bindings_of, expanded}
 use Rattle.stp_instance.specs.Typing.{objects_in}
 use Rattle.stp_instance.specs.Views.{claim}

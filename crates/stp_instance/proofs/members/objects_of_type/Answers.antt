@@ -1,7 +1,7 @@
 use Rattle.std.proofs.Common.{ℕ, ◌<◌, ◌∙◌, ap, arith, length, true, false}
-use Rattle.stp_ancestors.specs.Forest.{is_below}
+use Rattle.stp_types.specs.Forest.{is_below}
 use Rattle.stp_schema.specs.Rows.{parents_of}
-use Rattle.stp_binding.specs.Bindings.{numbers_of}
+use Rattle.stp_instance.specs.Bindings.{numbers_of}
 use Rattle.stp_instance.proofs.OfType.{kind_at, below_is, one_passes, one_fails}
 use Rattle.stp_instance.proofs.members.objects_of_type.Goals as goal
 use Rattle.stp_instance.proofs.members.objects_of_type.Goals.{then-is_below+in_ok-push, else-is_below}

@@ -1,8 +1,8 @@
 -- The objects of the type so far.
 use Rattle.std.proofs.Common.{◌≡◌}
-use Rattle.stp_ancestors.specs.Forest.{is_below}
+use Rattle.stp_types.specs.Forest.{is_below}
 use Rattle.stp_schema.specs.Rows.{parents_of}
-use Rattle.stp_binding.specs.Bindings.{numbers_of}
+use Rattle.stp_instance.specs.Bindings.{numbers_of}
 use Rattle.stp_instance.proofs.OfType.{passing, kind_at}
 use Rattle.stp_instance.proofs.members.objects_of_type.Given as goal
 

@@ -1,6 +1,6 @@
 -- The objects so far are those of the variables so far.
 use Rattle.std.proofs.Common.{◌≡◌, ◌++◌, map, take}
-use Rattle.stp_binding.specs.Bindings.{numbers_of}
+use Rattle.stp_instance.specs.Bindings.{numbers_of}
 use Rattle.stp_instance.specs.Turning.{shown}
 use Rattle.stp_instance.proofs.wheel.put.Given as goal
 

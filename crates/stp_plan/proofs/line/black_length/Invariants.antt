@@ -1,7 +1,7 @@
 -- What is behind this place is white.
 use Rattle.std.proofs.Common.{◌≡◌, ◌≤◌, ◌-◌, length, take}
 use Rattle.std.specs.List.{suffix_len}
-use Rattle.stp_plan.specs.Bytes.{is_white}
+use Rattle.stp_text.specs.Bytes.{is_white}
 use Rattle.stp_plan.proofs.line.black_length.Given as goal
 
 abbrev pub invariant-loop-end : goal.invariant-loop-end

@@ -1,7 +1,7 @@
 -- What is in front of this place is white.
 use Rattle.std.proofs.Common.{◌≡◌, ◌+◌, drop}
 use Rattle.std.specs.List.{prefix_len}
-use Rattle.stp_plan.specs.Bytes.{is_white}
+use Rattle.stp_text.specs.Bytes.{is_white}
 use Rattle.stp_plan.proofs.line.white_length.Given as goal
 
 abbrev pub invariant-loop-place : goal.invariant-loop-place

@@ -1,6 +1,6 @@
 use Rattle.std.proofs.Common.{true, false, Some, None, option_map, ap, ◌∙◌, sym}
 use Rattle.stp_plan.specs.Parts.{parts, after}
-use Rattle.stp_plan.specs.Names.{◌>>=◌}
+use Rattle.stp_base.specs.Options.{◌>>=◌}
 use Rattle.stp_plan.specs.Steps.{NoBracket, inside}
 use Rattle.stp_plan.specs.Views.{plain_bracket}
 use Rattle.stp_plan.proofs.Following.{goes_on, stops}

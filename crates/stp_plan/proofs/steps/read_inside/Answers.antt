@@ -9,7 +9,7 @@ use Rattle.stp_plan.proofs.steps.read_inside.Goals as goal
 
 pub returns-then-comma-word : goal.returns-then-comma-word
 returns-then-comma-word c =
-    ap (option_map (λ (n : Fraction). Exactly n)) c.in_ok-number.ensures
+    ap (option_map (λ (n : Fraction). Exactly n)) c.in_ok-plain_number.ensures
     ∙ sym (inside_number c.args.word.now (sym c.if-is_star.false ∙ c.is_star.ensures) (sym c.place_of_byte-comma.ensures.value ∙ c.if-comma-word.true))
 
 pub returns-in_err-low : goal.returns-in_err-low

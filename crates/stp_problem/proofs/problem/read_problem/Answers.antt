@@ -5,7 +5,7 @@ use Rattle.stp_problem.proofs.TypedObjects.{rows_fit}
 use Rattle.stp_problem.proofs.problem.read_problem.Goals as goal
 
 pub judge_sizes-requires : goal.judge_sizes-requires
-judge_sizes-requires c = rows_fit c.args.domain _ c.in_ok-objects.objects.rows.now _ c.requires c.in_ok-objects.ensures
+judge_sizes-requires c = rows_fit c.args.domain _ c.in_ok-objects.objects.rows.now _ c.in_ok-objects.ensures
 
 pub returns-in_err-judge_sizes-clause-refused : goal.returns-in_err-judge_sizes-clause-refused
 returns-in_err-judge_sizes-clause-refused c = λ code at e.

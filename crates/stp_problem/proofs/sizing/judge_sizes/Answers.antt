@@ -2,7 +2,7 @@ use Rattle.std.proofs.Common.{map, sym, ap, ◌∙◌, Err}
 use Rattle.stp_schema.specs.Rows.{thing_of, parents_of}
 use Rattle.stp_schema.specs.Formula.{formula}
 use Rattle.stp_schema.specs.Schemas.{schema_of}
-use Rattle.stp_sizes.specs.Sizes.{size_of}
+use Rattle.stp_problem.specs.Sizes.{size_of}
 use Rattle.stp_problem.proofs.TooLarge.{sizes_are, goal_refused, action_refused, none_refused}
 use Rattle.stp_problem.proofs.sizing.judge_sizes.Goals as goal
 

@@ -1,11 +1,12 @@
 use Rattle.std.proofs.Common.{◌≡◌, ◌<◌, ◌-◌, true, rules, ◌++◌, List, ℕ, Bool, IfOk, [], ap, sym, ◌∙◌, subst, take, drop, length}
 use Rattle.std.specs.List.{list_all}
 use Rattle.stp_cond.specs.declared.cond.Cond.TheVariants.{True}
-use Rattle.stp_cond.specs.Truth.{meaning_of}
+use Rattle.stp_cond.specs.Truth.{meaning_of, state_of_row}
 use Rattle.stp_happen.specs.Plain.{state_after}
-use Rattle.stp_strength.specs.Facts.{came_by, state_at}
+use Rattle.stp_window.specs.States.{came_by, state_at}
 use Rattle.stp_strength.specs.Failures.{of_steps, sublists}
-use Rattle.stp_strength.specs.Views.{box_of, late_entries}
+use Rattle.stp_window.specs.Views.{box_of}
+use Rattle.stp_strength.specs.Views.{late_entries}
 use Rattle.stp_strength.proofs.Checked.{left_of, no_other, last_other}
 use Rattle.stp_strength.proofs.check.+passes_all.Goals as goal
 
@@ -18,8 +19,8 @@ returns-then-is_empty t c =
     let test : List ℕ → Bool = λ steps. meaning_of over (state_at (box_of windows [] initial True) c.args.time (of_steps steps)) in
     let none : length c.args.others.now ≡ 0 = search rules in
     subst (λ v. IfOk c.holds_after.result (λ r. r ≡ v))
-    (ap (λ ws. meaning_of over (state_after initial (late_entries ws))) (c.deref.ensures.value ∙ c.in_ok-came.ensures)
-    ∙ (ap (meaning_of over) (left_of initial windows (came_by c.args.time (of_steps chosen))) ∙ no_other test chosen c.args.others.now none))
+    (ap (λ ws. meaning_of over (state_after (state_of_row initial) (late_entries ws))) (c.deref.ensures.value ∙ c.in_ok-came.ensures)
+    ∙ (ap (meaning_of over) (left_of (state_of_row initial) windows (came_by c.args.time (of_steps chosen))) ∙ no_other test chosen c.args.others.now none))
     c.holds_after.ensures
 
 pub returns : goal.returns

@@ -1,7 +1,7 @@
 use Rattle.std.proofs.Common.{[], arith, sym, ◌∙◌}
 use Rattle.stp_cond.specs.declared.cond.Cond.TheVariants.{True}
 use Rattle.stp_strength.specs.Failures.{is_fed}
-use Rattle.stp_strength.specs.Views.{point_of, box_of}
+use Rattle.stp_window.specs.Views.{point_of, box_of}
 use Rattle.stp_strength.proofs.Loops.{stops, goes_on}
 use Rattle.stp_strength.proofs.check.all_fed.Goals as goal
 

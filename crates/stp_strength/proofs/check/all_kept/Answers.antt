@@ -2,7 +2,7 @@ use Rattle.std.proofs.Common.{[], map, arith, sym, ◌∙◌}
 use Rattle.std.specs.List.{list_all}
 use Rattle.stp_cond.specs.declared.cond.Cond.TheVariants.{True}
 use Rattle.stp_strength.specs.Failures.{is_kept}
-use Rattle.stp_strength.specs.Views.{span_of, box_of}
+use Rattle.stp_window.specs.Views.{span_of, box_of}
 use Rattle.stp_strength.proofs.Loops.{stops, goes_on}
 use Rattle.stp_strength.proofs.check.all_kept.Goals as goal
 

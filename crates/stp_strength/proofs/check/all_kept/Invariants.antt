@@ -2,7 +2,7 @@ use Rattle.std.proofs.Common.{◌≡◌, [], drop, map}
 use Rattle.std.specs.List.{list_all}
 use Rattle.stp_cond.specs.declared.cond.Cond.TheVariants.{True}
 use Rattle.stp_strength.specs.Failures.{is_kept}
-use Rattle.stp_strength.specs.Views.{spans_of, box_of}
+use Rattle.stp_window.specs.Views.{spans_of, box_of}
 use Rattle.stp_strength.proofs.check.all_kept.Given as goal
 
 abbrev pub invariant-loop-span : goal.invariant-loop-span

@@ -1,8 +1,8 @@
 use Rattle.std.proofs.Common.{[], arith, sym, ◌∙◌}
 use Rattle.stp_cond.specs.declared.cond.Cond.TheVariants.{True}
-use Rattle.stp_strength.specs.declared.windows.Window.{Window}
+use Rattle.stp_window.specs.declared.windows.Window.{Window}
 use Rattle.stp_strength.specs.Failures.{is_kept}
-use Rattle.stp_strength.specs.Views.{span_of, box_of}
+use Rattle.stp_window.specs.Views.{span_of, box_of}
 use Rattle.stp_strength.proofs.Loops.{stops, goes_on}
 use Rattle.stp_strength.proofs.check.is_kept_throughout.Goals as goal
 

@@ -1,4 +1,4 @@
-use Rattle.stp_strength.proofs.WellMade.{box_grid_decides}
+use Rattle.stp_strength.proofs.BoxLaws.{box_grid_decides}
 use Rattle.stp_strength.proofs.laws.box_grid_decides.Goals as goal
 
 pub returns : goal.returns

@@ -1,4 +1,4 @@
-use Rattle.stp_strength.proofs.WellMade.{box_least_failure_exactly_where_weak}
+use Rattle.stp_strength.proofs.BoxLaws.{box_least_failure_exactly_where_weak}
 use Rattle.stp_strength.proofs.laws.box_least_failure_exactly_where_weak.Goals as goal
 
 pub returns : goal.returns

@@ -1,4 +1,4 @@
-use Rattle.stp_strength.proofs.Gaps.{failures_mean_weakness}
+use Rattle.stp_strength.proofs.BoxGaps.{failures_mean_weakness}
 use Rattle.stp_strength.proofs.laws.failures_mean_weakness.Goals as goal
 
 pub returns : goal.returns

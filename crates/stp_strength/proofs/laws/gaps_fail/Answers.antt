@@ -1,4 +1,4 @@
-use Rattle.stp_strength.proofs.Gaps.{gaps_fail}
+use Rattle.stp_strength.proofs.BoxGaps.{gaps_fail}
 use Rattle.stp_strength.proofs.laws.gaps_fail.Goals as goal
 
 pub returns : goal.returns

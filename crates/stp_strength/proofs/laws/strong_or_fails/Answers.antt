@@ -1,4 +1,4 @@
-use Rattle.stp_strength.proofs.Gaps.{strong_or_fails}
+use Rattle.stp_strength.proofs.BoxGaps.{strong_or_fails}
 use Rattle.stp_strength.proofs.laws.strong_or_fails.Goals as goal
 
 pub returns : goal.returns

@@ -1,7 +1,7 @@
 use Rattle.std.proofs.Common.{◌≡◌, drop}
 use Rattle.std.specs.List.{list_all}
 use Rattle.stp_strength.specs.Failures.{stay_apart}
-use Rattle.stp_strength.specs.Views.{spans_of}
+use Rattle.stp_window.specs.Views.{spans_of}
 use Rattle.stp_strength.proofs.pairs.all_apart.Given as goal
 
 abbrev pub invariant-loop-one : goal.invariant-loop-one

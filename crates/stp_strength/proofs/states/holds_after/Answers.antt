@@ -8,4 +8,4 @@ use Rattle.stp_strength.proofs.states.holds_after.Goals as goal
 pub returns : goal.returns
 returns c =
     c.holds.ensures
-    ∙ truth_below (length c.args.initial.now) (state_of_row c.in_ok-row.row) (state_after c.args.initial.now (late_entries c.args.windows.now)) c.args.cond.now c.requires (λ a l. c.in_ok-row.ensures.state a l)
+    ∙ truth_below (length c.args.initial.now) (state_of_row c.in_ok-row.row) (state_after (state_of_row c.args.initial.now) (late_entries c.args.windows.now)) c.args.cond.now c.requires (λ a l. c.in_ok-row.ensures.state a l)

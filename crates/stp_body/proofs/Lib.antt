@@ -1,0 +1,4 @@
+mod Reading
+mod TypedEffects
+mod Equations
+pub mod TypedDurations

@@ -1,0 +1,9 @@
+pub mod Forms
+pub mod EffectViews
+pub mod Effects
+pub mod TimedEffects
+pub mod TypedEffects
+pub mod Expressions
+pub mod Durations
+pub mod DurationViews
+pub mod TypedDurations

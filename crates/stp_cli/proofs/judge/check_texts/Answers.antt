@@ -1,0 +1,57 @@
+use Rattle.std.proofs.Common.{◌≡◌, Err, sym, ap, ap₂, ◌∙◌}
+use Rattle.std.proofs.lemmas.Result.{IfOk-weaker}
+use Rattle.stp_schema.specs.Views.{problem_of}
+use Rattle.stp_cli.specs.Case.{problem_of_texts, steps_of, case_of, case_with, grid_of, box_of}
+use Rattle.stp_cli.specs.Verdict.{IsVerdict}
+use Rattle.stp_cli.proofs.Casing.{case_refused, steps_refused, a_case, refused_or, or_right, same_verdict}
+use Rattle.stp_cli.proofs.judge.check_texts.Goals as goal
+
+-- the domain or the problem is refused, and so the case is
+pub returns-in-Err : goal.returns-in-Err
+returns-in-Err c =
+    let texts = c.args.texts.now in
+    let read : problem_of_texts texts.domain texts.problem ≡ problem_of_texts c.as_slice.result.now c.as_slice-2.result.now = ap₂ problem_of_texts (sym c.as_slice.ensures) (sym c.as_slice-2.ensures) in
+    IfOk-weaker c.refuse.result _ _
+    (λ r (refusal, of, (answer, is, status, text)). (
+      answer,
+      refused_or (λ made. IsVerdict (grid_of made) (box_of made)) (case_of texts.domain texts.problem texts.plan) refusal answer
+          (case_refused texts.domain texts.problem texts.plan refusal (read ∙ c.in-Err.ensures.refused refusal (ap Err of))) is,
+      status,
+      text,
+    ))
+    c.refuse.ensures
+
+-- the plan is refused, and so the case is
+pub returns-in-Err-read_steps : goal.returns-in-Err-read_steps
+returns-in-Err-read_steps c =
+    let texts = c.args.texts.now in
+    let read : problem_of_texts texts.domain texts.problem ≡ problem_of_texts c.as_slice.result.now c.as_slice-2.result.now = ap₂ problem_of_texts (sym c.as_slice.ensures) (sym c.as_slice-2.ensures) in
+    let lines : steps_of (problem_of c.in-Ok.problem) texts.plan ≡ steps_of (problem_of c.in-Ok.problem) c.as_slice-3.result.now = ap (steps_of (problem_of c.in-Ok.problem)) (sym c.as_slice-3.ensures) in
+    IfOk-weaker c.refuse-in-Err-read_steps.result _ _
+    (λ r (refusal, of, (answer, is, status, text)). (
+      answer,
+      refused_or (λ made. IsVerdict (grid_of made) (box_of made)) (case_of texts.domain texts.problem texts.plan) refusal answer
+          (steps_refused texts.domain texts.problem texts.plan (problem_of c.in-Ok.problem) (read ∙ c.in-Ok.ensures.ok) refusal (lines ∙ c.in-Err-read_steps.ensures.refused refusal (ap Err of))) is,
+      status,
+      text,
+    ))
+    c.refuse-in-Err-read_steps.ensures
+
+-- the verdict is on the box of the case
+pub returns : goal.returns
+returns c =
+    let texts = c.args.texts.now in
+    let read : problem_of_texts texts.domain texts.problem ≡ problem_of_texts c.as_slice.result.now c.as_slice-2.result.now = ap₂ problem_of_texts (sym c.as_slice.ensures) (sym c.as_slice-2.ensures) in
+    let lines : steps_of (problem_of c.in-Ok.problem) texts.plan ≡ steps_of (problem_of c.in-Ok.problem) c.as_slice-3.result.now = ap (steps_of (problem_of c.in-Ok.problem)) (sym c.as_slice-3.ensures) in
+    let (steps, placed, stands) = c.in-Ok-read_steps.ensures.ok in
+    let made = case_with (problem_of c.in-Ok.problem) steps in
+    IfOk-weaker c.verdict.result _ _
+    (λ r (answer, right, status, text). (
+      answer,
+      or_right (λ d. IsVerdict (grid_of d) (box_of d)) (case_of texts.domain texts.problem texts.plan) made answer
+          (a_case texts.domain texts.problem texts.plan (problem_of c.in-Ok.problem) (read ∙ c.in-Ok.ensures.ok) steps (lines ∙ placed))
+          (same_verdict c.in-Ok-read_steps.case made stands answer right),
+      status,
+      text,
+    ))
+    c.verdict.ensures

@@ -1,0 +1,24 @@
+-- What is right to answer on the texts of a command's files: a line for each work.
+use Rattle.std.specs.Prelude.{ℕ, List}
+use Rattle.stp_report.specs.declared.answer.Answer.{Answer}
+use Rattle.stp_cli.specs.declared.texts.Texts.{Texts}
+use Rattle.stp_cli.specs.declared.words.Work.{Work}
+use Rattle.stp_cli.specs.declared.words.Work.TheVariants.{Check, Replay}
+use Rattle.stp_cli.specs.Case.{case_of, grid_of, box_of}
+use Rattle.stp_cli.specs.Refusals.{IsOrRefused}
+use Rattle.stp_cli.specs.Verdict.{IsVerdict}
+use Rattle.stp_cli.specs.Replay.{IsReplayedCase}
+
+-- the first refusal, or the verdict on the plan
+abbrev pub IsChecked : Texts → Answer → Type 0
+IsChecked texts answer =
+    IsOrRefused (λ c. IsVerdict (grid_of c) (box_of c)) (case_of texts.domain texts.problem texts.plan) answer
+
+-- the first refusal, or the run of the plan under the durations that are listed
+abbrev pub IsReplayed : List ℕ → Texts → Answer → Type 0
+IsReplayed list texts answer =
+    IsOrRefused (IsReplayedCase list) (case_of texts.domain texts.problem texts.plan) answer
+
+abbrev pub IsRight : Work → List ℕ → Texts → Answer → Type 0
+IsRight Check list texts answer = IsChecked texts answer
+IsRight Replay list texts answer = IsReplayed list texts answer

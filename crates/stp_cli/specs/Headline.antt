@@ -1,0 +1,165 @@
+-- What the answers to commands come to, where the store tells its files and their names are steady.
+use Rattle.std.specs.Prelude.{◌≡◌, ◌≢◌, ℕ, ◌↔◌, true, ◌⊎◌, nat_lt, if◌then◌else◌, List, [], ◌∷◌, length, All, Option, Some, unwrap_or, Result, Ok, Err}
+use Rattle.std.specs.Result.{result_err}
+use Rattle.stp_io.specs.Store.{HasRisen}
+use Rattle.stp_refusal.specs.declared.code.Code.TheVariants.{F01}
+use Rattle.stp_exec.specs.Plans.{IsStrongPlan}
+use Rattle.stp_report.specs.declared.answer.Answer.{Answer}
+use Rattle.stp_report.specs.declared.answer.Answer.TheVariants as answers
+use Rattle.stp_report.specs.Texts.{text_of}
+use Rattle.stp_cli.specs.declared.refusal.Refusal.{Refusal}
+use Rattle.stp_cli.specs.declared.status.Status.{Status}
+use Rattle.stp_cli.specs.declared.status.Status.TheVariants as statuses
+use Rattle.stp_cli.specs.declared.texts.Texts.{Texts}
+use Rattle.stp_cli.specs.declared.words.Work.{Work}
+use Rattle.stp_cli.specs.declared.words.Work.TheVariants.{Check, Replay}
+use Rattle.stp_cli.specs.Calls.{Files, StoreCall, SinkCall}
+use Rattle.stp_cli.specs.Words.{Named, Command, command_of, files_of}
+use Rattle.stp_cli.specs.Texts.{no_texts, with_text}
+use Rattle.stp_base.specs.Results.{◌>>=◌}
+use Rattle.stp_cli.specs.Refusals.{refusal, refused}
+use Rattle.stp_cli.specs.Case.{PlainCase, case_of, times_of, grid_of, box_of}
+use Rattle.stp_cli.specs.Loading.{IsStopped, AreLoaded}
+use Rattle.stp_cli.specs.Verdict.{IsStrongVerdict, IsWeakVerdict}
+use Rattle.stp_cli.specs.Replay.{durations_of}
+use Rattle.stp_cli.specs.Replies.{status_of}
+use Rattle.stp_cli.specs.Answers.{IsRight}
+use Rattle.stp_cli.specs.Outcome.{IsAllowedTo, IsWritten}
+
+-- ---- what is accepted
+
+-- The texts of files that are told, put to those before, or the refusal of the first that is too long. (A file
+-- that is not there has no steady name, and so no answer is ever given on it.)
+abbrev pub texts_in : Files → List Named → Texts → Result Texts Refusal
+texts_in file [] texts = Ok texts
+texts_in file (f ∷ fs) texts =
+    let bytes = unwrap_or (file f.name) [] in
+    if nat_lt 1048576 (length bytes)
+    then Err (refusal f.role F01 1048576)
+    else texts_in file fs (with_text f.role bytes texts)
+
+-- the case that the files of a command make, or their first refusal
+abbrev pub case_in : Files → Command → Result PlainCase Refusal
+case_in file c = do
+  texts ← texts_in file (files_of c) no_texts
+  case_of texts.domain texts.problem texts.plan
+
+-- the files of a command are accepted, and make this case
+abbrev pub IsAccepted : Files → Command → PlainCase → Type 0
+IsAccepted file c made = case_in file c ≡ Ok made
+
+-- what a work refuses of the texts of its files: a line for each work
+abbrev pub refusal_on : Work → List ℕ → Texts → Option Refusal
+refusal_on Check list texts = result_err (case_of texts.domain texts.problem texts.plan)
+refusal_on Replay list texts =
+    result_err (case_of texts.domain texts.problem texts.plan >>= (λ c. durations_of (times_of c) list))
+
+abbrev pub refusal_in : Work → List ℕ → Result Texts Refusal → Option Refusal
+refusal_in work list (Err r) = Some r
+refusal_in work list (Ok texts) = refusal_on work list texts
+
+-- the first refusal of a command, if it has one
+abbrev pub first_refusal : Files → Command → Option Refusal
+first_refusal file c = refusal_in c.work c.list (texts_in file (files_of c) no_texts)
+
+-- ---- the headline
+
+-- the answer begins with the word strong
+pub record SaysStrong (answer : Answer) : Type 0 where
+  pub steps : ℕ
+  pub uncertain : ℕ
+  pub grid : ℕ
+  pub answered : answer ≡ answers.Strong steps uncertain grid
+
+-- What is answered to `check` on a case, or on the refusal that stands in its place: strong exactly where the plan
+-- is strong, and otherwise its least failure on the base grid with the first fault of that run.
+pub record IsHeadline (read : Result PlainCase Refusal) (answer : Answer) : Type 0 where
+  pub refusals : (r : Refusal) → read ≡ Err r → answer ≡ refused r
+  pub exact : (made : PlainCase) → read ≡ Ok made → SaysStrong answer ↔ IsStrongPlan made.problem made.steps
+  pub done : (made : PlainCase) → read ≡ Ok made
+      → (status_of answer ≡ statuses.Done) ↔ IsStrongPlan made.problem made.steps
+  pub strong : (made : PlainCase) → read ≡ Ok made → IsStrongPlan made.problem made.steps
+      → IsStrongVerdict (grid_of made) (box_of made) answer
+  pub weak : (made : PlainCase) → read ≡ Ok made → (IsStrongPlan made.problem made.steps → ⊥)
+      → IsWeakVerdict (grid_of made) (box_of made) answer
+
+-- each name of these files is steady
+abbrev pub AreSteady : StoreCall → List Named → Type 0
+AreSteady reads files = All (λ (f : Named). reads.steady f.name ≡ true) files
+
+-- a command over files that the store tells and of which no read fails
+pub record IsOverFiles (reads : StoreCall) (file : Files) (c : Command) : Type 0 where
+  pub told : reads.told ≡ Some file
+  pub steady : AreSteady reads (files_of c)
+
+-- `check` over such files
+pub record IsCheck (reads : StoreCall) (file : Files) (c : Command) : Type 0 where
+  pub work : c.work ≡ Check
+  pub over : IsOverFiles reads file c
+
+-- A call with a `check` as its words, over a store that tells its files, that ends neither for want of memory nor
+-- with a fault of the outside, has appended the whole text of the answer that the headline names.
+abbrev pub IsHeadlineOf : StoreCall → SinkCall → List (List ℕ) → Status → Type 0
+IsHeadlineOf reads writes words status =
+    (file : Files) (c : Command) → command_of words ≡ Some c → c.work ≡ Check → reads.told ≡ Some file
+    → status ≢ statuses.Memory → status ≢ statuses.OutsideFault
+    → (answer : Answer) × IsHeadline (case_in file c) answer × IsWritten writes status answer
+
+-- A call with a command as its words, over files of steady names and in which no write failed, ends with no fault of
+-- the outside.
+abbrev pub IsComplete : StoreCall → SinkCall → List (List ℕ) → Status → Type 0
+IsComplete reads writes words status =
+    (c : Command) → command_of words ≡ Some c → AreSteady reads (files_of c)
+    → (HasRisen writes.faults writes.faults_after → ⊥)
+    → status ≢ statuses.OutsideFault
+
+-- ---- laws
+
+-- an answer that may come to `check` is the one of the headline
+abbrev pub ChecksMeetTheHeadline : Type 0
+ChecksMeetTheHeadline =
+    (reads : StoreCall) (file : Files) (c : Command) (answer : Answer)
+    → IsCheck reads file c → IsAllowedTo reads c answer → IsHeadline (case_in file c) answer
+
+-- of accepted files it says strong exactly where their plan is strong
+abbrev pub StrongIsExact : Type 0
+StrongIsExact =
+    (reads : StoreCall) (file : Files) (c : Command) (made : PlainCase) (answer : Answer)
+    → IsCheck reads file c → IsAccepted file c made → IsAllowedTo reads c answer
+    → SaysStrong answer ↔ IsStrongPlan made.problem made.steps
+
+-- Over any store, also one that tells nothing, it says which file was not loaded, or is the one of the headline on
+-- some texts of lawful length, one for each file.
+abbrev pub ChecksAreOfTexts : Type 0
+ChecksAreOfTexts =
+    (reads : StoreCall) (c : Command) (answer : Answer) → c.work ≡ Check → IsAllowedTo reads c answer
+    → IsStopped reads (files_of c) answer
+    ⊎ ((texts : Texts)
+    × AreLoaded reads (files_of c) no_texts texts
+    × IsHeadline (case_of texts.domain texts.problem texts.plan) answer)
+
+-- two answers that may come to `check` are printed alike, and end alike
+abbrev pub ChecksHaveOneText : Type 0
+ChecksHaveOneText =
+    (reads : StoreCall) (file : Files) (c : Command) (one other : Answer)
+    → IsCheck reads file c → IsAllowedTo reads c one → IsAllowedTo reads c other
+    → (text_of one ≡ text_of other) × (status_of one ≡ status_of other)
+
+-- a refusal is answered to a command exactly where it is the first one
+abbrev pub RefusalsAreExact : Type 0
+RefusalsAreExact =
+    (reads : StoreCall) (file : Files) (c : Command) (answer : Answer)
+    → IsOverFiles reads file c → IsAllowedTo reads c answer
+    → (r : Refusal) → (answer ≡ refused r) ↔ (first_refusal file c ≡ Some r)
+
+-- an answer that is right on texts is no fault of the outside
+abbrev pub RightAnswersAreNoFaults : Type 0
+RightAnswersAreNoFaults =
+    (work : Work) (list : List ℕ) (texts : Texts) (answer : Answer)
+    → IsRight work list texts answer → status_of answer ≢ statuses.OutsideFault
+
+-- where the names of a command's files are steady, no fault of the outside is answered
+abbrev pub SteadyNamesAreRead : Type 0
+SteadyNamesAreRead =
+    (reads : StoreCall) (c : Command) (answer : Answer)
+    → AreSteady reads (files_of c) → IsAllowedTo reads c answer → status_of answer ≢ statuses.OutsideFault

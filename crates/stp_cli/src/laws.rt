@@ -1,0 +1,39 @@
+//! Laws of the answers that may come. Nothing here runs.
+
+ghost use Rattle.stp_cli.specs.Headline.{ChecksMeetTheHeadline, StrongIsExact, ChecksAreOfTexts, ChecksHaveOneText, RefusalsAreExact, RightAnswersAreNoFaults, SteadyNamesAreRead};
+
+/// An answer that may come to `check` over told files of steady names is the one of the headline.
+pub fn checks_meet_the_headline()
+    ensures { ChecksMeetTheHeadline }
+{}
+
+/// Of accepted files `check` says strong exactly where their plan is strong.
+pub fn strong_is_exact()
+    ensures { StrongIsExact }
+{}
+
+/// Over any store an answer that may come to `check` is the one of the headline on some texts of lawful length, or
+/// says which file was not loaded.
+pub fn checks_are_of_texts()
+    ensures { ChecksAreOfTexts }
+{}
+
+/// Two answers that may come to `check` over told files of steady names are printed alike.
+pub fn checks_have_one_text()
+    ensures { ChecksHaveOneText }
+{}
+
+/// A refusal is answered over told files of steady names exactly where it is the first one.
+pub fn refusals_are_exact()
+    ensures { RefusalsAreExact }
+{}
+
+/// What is right on texts is no fault of the outside.
+pub fn right_answers_are_no_faults()
+    ensures { RightAnswersAreNoFaults }
+{}
+
+/// Where the names of a command's files are steady, no fault of the outside is answered.
+pub fn steady_names_are_read()
+    ensures { SteadyNamesAreRead }
+{}

@@ -1,8 +1,0 @@
-use Rattle.std.proofs.Common.{◌≡◌, drop, map}
-use Rattle.stp_offence.specs.First.{first_from}
-use Rattle.stp_declared.specs.ActionViews.{action_signature_of}
-use Rattle.stp_declared.specs.Tables.{actions_unknown}
-use Rattle.stp_declared.proofs.kinds.judge_actions.Given as goal
-
-abbrev pub invariant-loop-row : goal.invariant-loop-row
-invariant-loop-row l = first_from l.first (actions_unknown l.types (map action_signature_of (drop l.row-index l.rows))) ≡ first_from l.fn.first (actions_unknown l.types (map action_signature_of l.rows))

@@ -1,7 +1,0 @@
-use Rattle.std.proofs.Common.{◌≡◌, ◌++◌, drop, map}
-use Rattle.stp_lists.specs.Entries.{plains}
-use Rattle.stp_declared.specs.Tables.{words_of}
-use Rattle.stp_declared.proofs.rows.words.Given as goal
-
-abbrev pub invariant-loop-entry : goal.invariant-loop-entry
-invariant-loop-entry l = map (λ w. w.now) l.words.items ++ words_of (plains (drop l.entry-index l.entries)) ≡ words_of (plains l.entries)

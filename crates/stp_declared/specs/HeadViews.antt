@@ -1,7 +1,0 @@
--- What heads stand for.
-use Rattle.stp_text.specs.Tree.{views}
-use Rattle.stp_declared.specs.declared.head.Head.{Head as FoundHead}
-use Rattle.stp_declared.specs.Heads.{Head}
-
-abbrev pub head_in : FoundHead → Head
-head_in h = record { at = h.at; name_at = h.name_at; name = h.name.now; parameters = views h.parameters.now }

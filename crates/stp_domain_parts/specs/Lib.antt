@@ -1,0 +1,13 @@
+pub mod Forms
+pub mod Keys
+pub mod Then
+pub mod Actions
+pub mod Domain
+pub mod Problem
+pub mod Views
+pub mod ProblemViews
+pub mod Laws
+pub mod ProblemLaws
+pub mod Entries
+pub mod Judged
+pub mod TypedLists

@@ -1,2 +1,0 @@
-mod Equations
-pub mod Typed

@@ -1,5 +1,0 @@
-use Rattle.stp_duration.proofs.Typed.{expression_typed, duration_typed}
-use Rattle.stp_duration.proofs.laws.read_durations_are_typed.Goals as goal
-
-pub returns : goal.returns
-returns c = record { expressions = λ k scope tree none. expression_typed k scope tree none; durations = λ k scope tree none. duration_typed k scope tree none }

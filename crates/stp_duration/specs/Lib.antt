@@ -1,4 +1,0 @@
-pub mod Expressions
-pub mod Durations
-pub mod Views
-pub mod Typed

@@ -1,4 +1,0 @@
-pub mod Gathering
-pub mod Saying
-mod Reading
-mod Typed

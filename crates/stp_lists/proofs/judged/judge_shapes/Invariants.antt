@@ -1,8 +1,0 @@
-use Rattle.std.proofs.Common.{◌≡◌, drop}
-use Rattle.stp_offence.specs.First.{first_from}
-use Rattle.stp_lists.specs.Entries.{plains}
-use Rattle.stp_lists.specs.Judged.{shapes_wrong, kinds_unknown}
-use Rattle.stp_lists.proofs.judged.judge_shapes.Given as goal
-
-abbrev pub invariant-loop-entry : goal.invariant-loop-entry
-invariant-loop-entry l = first_from l.first (shapes_wrong (plains (drop l.entry-index l.entries))) ≡ first_from l.fn.first (shapes_wrong (plains l.entries))

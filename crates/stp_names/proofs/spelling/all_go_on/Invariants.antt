@@ -1,7 +1,0 @@
-use Rattle.std.proofs.Common.{◌≡◌, drop}
-use Rattle.std.specs.List.{list_all}
-use Rattle.stp_names.specs.Spelling.{goes_on_name}
-use Rattle.stp_names.proofs.spelling.all_go_on.Given as goal
-
-abbrev pub invariant-loop-byte : goal.invariant-loop-byte
-invariant-loop-byte l = list_all goes_on_name (drop l.byte-index l.bytes) ≡ list_all goes_on_name l.bytes

@@ -1,0 +1,12 @@
+mod Demands
+mod Fractions
+mod Raising
+mod Following
+mod Settling
+mod Sizes
+mod Passing
+mod Gaps
+mod Linked
+mod Kept
+mod Withdrawing
+mod Answering

@@ -1,0 +1,9 @@
+pub mod Network
+pub mod Fractions
+pub mod Demands
+pub mod Edges
+pub mod Raising
+pub mod Propagation
+pub mod Lowest
+pub mod Rows
+pub mod Held

@@ -1,4 +1,0 @@
-pub mod Cuts
-pub mod Members
-pub mod AllBindings
-pub mod First

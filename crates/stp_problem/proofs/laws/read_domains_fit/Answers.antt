@@ -1,5 +1,0 @@
-use Rattle.stp_problem.proofs.Reading.{domain_fits}
-use Rattle.stp_problem.proofs.laws.read_domains_fit.Goals as goal
-
-pub returns : goal.returns
-returns c = λ t d e. domain_fits t d e

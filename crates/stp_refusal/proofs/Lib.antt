@@ -1,0 +1,4 @@
+pub mod Reading
+mod Least
+pub mod Gathering
+pub mod Saying

@@ -1,4 +1,0 @@
-mod Going
-mod Choices
-mod Sections
-mod ProblemSections

@@ -1,4 +1,0 @@
-pub mod Counts
-pub mod Leading
-pub mod Left
-pub mod Moving

@@ -1,5 +1,0 @@
-use Rattle.stp_strength.proofs.WellMade.{boxes_have_proper_windows}
-use Rattle.stp_strength.proofs.laws.boxes_have_proper_windows.Goals as goal
-
-pub returns : goal.returns
-returns c = boxes_have_proper_windows

@@ -1,6 +1,0 @@
-use Rattle.std.proofs.Common.{◌∙◌}
-use Rattle.stp_strength.proofs.Values.{among_is_has}
-use Rattle.stp_strength.proofs.states.deletes.Goals as goal
-
-pub returns : goal.returns
-returns c = c.is_among.ensures ∙ among_is_has c.args.window.now.event.dels.now c.args.atom.0

@@ -1,5 +1,0 @@
-use Rattle.std.proofs.Common.{◌-◌, length}
-use Rattle.stp_strength.proofs.tests.+first_failing.Given as goal
-
-abbrev pub decreases-first_failing : goal.decreases-first_failing
-decreases-first_failing l = length l.boxed.now.steps - l.at

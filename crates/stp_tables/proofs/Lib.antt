@@ -1,0 +1,3 @@
+pub mod FirstSight
+pub mod NameKeys
+pub mod AtomKeys

@@ -1,0 +1,3 @@
+pub mod FirstSight
+pub mod Names
+pub mod Atoms

@@ -1,3 +1,0 @@
-pub mod Scopes
-pub mod Found
-pub mod Typed

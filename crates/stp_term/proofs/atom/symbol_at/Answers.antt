@@ -1,6 +1,0 @@
-use Rattle.std.proofs.Common.{Some}
-use Rattle.stp_term.proofs.Found.{symbol_there}
-use Rattle.stp_term.proofs.atom.symbol_at.Goals as goal
-
-pub returns : goal.returns
-returns c = rw c.in_ok-number.was (symbol_there c.args.symbols.now _ (Some c.in_ok-symbol.symbol) c.in_ok-symbol.ensures)

@@ -1,4 +1,0 @@
-pub mod Forms
-pub mod Timed
-pub mod Views
-pub mod Typed

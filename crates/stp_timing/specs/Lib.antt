@@ -1,5 +1,0 @@
-pub mod Held
-pub mod Timed
-pub mod Lists
-pub mod Fitting
-pub mod Laws

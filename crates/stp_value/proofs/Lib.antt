@@ -1,4 +1,0 @@
-pub mod Weights
-pub mod Tables
-pub mod Steps
-pub mod Zero

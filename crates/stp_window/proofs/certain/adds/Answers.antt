@@ -1,6 +1,0 @@
-use Rattle.std.proofs.Common.{◌∙◌}
-use Rattle.stp_strength.proofs.Values.{among_is_has}
-use Rattle.stp_window.proofs.certain.adds.Goals as goal
-
-pub returns : goal.returns
-returns c = c.is_among.ensures ∙ among_is_has c.args.event.now.adds.now c.args.atom.0
