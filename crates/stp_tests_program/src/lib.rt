@@ -2,10 +2,17 @@
 //! stores and sinks in memory. There is nothing here but tests.
 #![tactic(auto)]
 
+#[cfg(test)]
 mod commands;
+#[cfg(test)]
 mod lab;
+#[cfg(test)]
 mod outside;
+#[cfg(test)]
 mod refusals;
+#[cfg(test)]
 mod replays;
+#[cfg(test)]
 mod rover;
+#[cfg(test)]
 mod setting;
