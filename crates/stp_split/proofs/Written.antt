@@ -42,7 +42,7 @@ written_by ends cases came state a p i h s =
 pub written_by_none : (ends : List Point) (came : Point → Bool) (state : ℕ → Bool) (a : ℕ) → list_any (λ q. came q && sets q a) ends ≡ false → written ends came state a ≡ state a
 written_by_none ends came state a e = ap (λ b. cond b (list_any (λ q. came q && has q.event.adds a) ends) (state a)) e
 
-no_writer : (ends : List Point) (came : Point → Bool) (a : ℕ) → ((p : Point) → Contains ends p → came p ≡ true → sets p a ≡ true → ⊥) → list_any (λ q. came q && sets q a) ends ≡ false
+pub no_writer : (ends : List Point) (came : Point → Bool) (a : ℕ) → ((p : Point) → Contains ends p → came p ≡ true → sets p a ≡ true → ⊥) → list_any (λ q. came q && sets q a) ends ≡ false
 no_writer ends came a none = elim (cases_Bool (list_any (λ q. came q && sets q a) ends)) [
   | inl e ↦ let r = passing_member (λ q. came q && sets q a) ends e in absurd (none r.0 r.1 (and_left (came r.0) (sets r.0 a) r.2) (and_right (came r.0) (sets r.0 a) r.2))
   | inr e ↦ e

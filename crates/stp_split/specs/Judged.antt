@@ -4,7 +4,7 @@ use Rattle.stp_cond.specs.declared.cond.Cond.{Cond}
 use Rattle.stp_cond.specs.Atoms.{has}
 use Rattle.stp_cond.specs.Truth.{truth}
 use Rattle.stp_window.specs.Windows.{Point}
-use Rattle.stp_split.specs.Cases.{written, have_come, turns}
+use Rattle.stp_split.specs.Cases.{written, have_come, turns, turns_at}
 
 -- ---- one formula
 
@@ -37,3 +37,14 @@ SomeAlways conds want ends state = (came : Point → Bool) → (c : Cond) × Con
 pub record EachFails (conds : List Cond) (want : Bool) (ends : List Point) (state : ℕ → Bool) (steps : List ℕ) : Type 0 where
   pub fails : (c : Cond) → Contains conds c → truth (written ends (have_come steps) state) c ≡ not want
   pub few : (n : ℕ) → has steps n ≡ true → (p : Point) × Contains ends p × (p.step ≡ n) × ((c : Cond) × Contains conds c × (turns p state c ≡ true))
+
+-- ---- one atom
+
+-- whichever ends have come, the atom has the value that is wanted
+abbrev pub IsAtomAlways : ℕ → Bool → List Point → (ℕ → Bool) → Type 0
+IsAtomAlways atom want ends state = (came : Point → Bool) → written ends came state atom ≡ want
+
+-- where the ends of these steps have come, it does not; each of them would change it
+pub record AtomFailsAt (atom : ℕ) (want : Bool) (ends : List Point) (state : ℕ → Bool) (steps : List ℕ) : Type 0 where
+  pub fails : written ends (have_come steps) state atom ≡ not want
+  pub few : (n : ℕ) → has steps n ≡ true → (p : Point) × Contains ends p × (p.step ≡ n) × (turns_at p state atom ≡ true)
