@@ -80,11 +80,11 @@ negation_answered cond part is want ends state (Some steps) h = record {
 
 -- ---- conjunctions and disjunctions
 
-all_true : (s : ℕ → Bool) (cs : List Cond) → ((c : Cond) → Contains cs c → truth s c ≡ true) → all_of (map (truth s) cs) ≡ true
+pub all_true : (s : ℕ → Bool) (cs : List Cond) → ((c : Cond) → Contains cs c → truth s c ≡ true) → all_of (map (truth s) cs) ≡ true
 all_true s [] h = refl
 all_true s (c ∷ cs) h = ap (λ b. b && all_of (map (truth s) cs)) (h c (here c cs)) ∙ all_true s cs (λ d i. h d (there c cs d i))
 
-all_false : (s : ℕ → Bool) (cs : List Cond) (c : Cond) → Contains cs c → truth s c ≡ false → all_of (map (truth s) cs) ≡ false
+pub all_false : (s : ℕ → Bool) (cs : List Cond) (c : Cond) → Contains cs c → truth s c ≡ false → all_of (map (truth s) cs) ≡ false
 all_false s [] c i h = absurd (member_nil c i)
 all_false s (d ∷ cs) c i h = elim (member_cases d cs c i) [ inl e ↦ ap (λ b. b && all_of (map (truth s) cs)) (ap (truth s) e ∙ h) | inr j ↦ and_false (truth s d) (all_of (map (truth s) cs)) (all_false s cs c j h) ]
   where

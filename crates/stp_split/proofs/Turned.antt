@@ -19,7 +19,7 @@ use Rattle.stp_split.specs.Cases.{ShareNone, IsShared, atoms_read, turns, turns_
 
 -- ---- whether an end spares a formula
 
-none_of : (f : ℕ → Bool) (xs : List ℕ) → list_all (λ a. not (f a)) xs ≡ not (list_any f xs)
+pub none_of : (f : ℕ → Bool) (xs : List ℕ) → list_all (λ a. not (f a)) xs ≡ not (list_any f xs)
 none_of f [] = refl
 none_of f (x ∷ xs) = ap (λ b. not (f x) && b) (none_of f xs) ∙ neither (f x) (list_any f xs)
   where

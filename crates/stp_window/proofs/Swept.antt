@@ -5,7 +5,7 @@ use Rattle.std.proofs.lemmas.Bool.{cases_lt, leb-true, le-leb}
 use Rattle.std.proofs.lemmas.Bool.Decides.{nat_tests}
 use Rattle.std.proofs.lemmas.List.{at_drop_more, get_or_default}
 use Rattle.std.proofs.lemmas.List.Elements.{Contains-append_left, Contains-append_right, Contains-append_cases}
-use Rattle.std.proofs.lemmas.List.Sorted.{Contains-permutation, IsPermutation-sym, length_permutation}
+use Rattle.std.proofs.lemmas.List.Sorted.{Contains-permutation, IsPermutation-sym}
 use Rattle.stp_base.specs.declared.ids.AtomId.{AtomId}
 use Rattle.stp_cond.specs.declared.event.Event.{Event}
 use Rattle.stp_cond.specs.Atoms.{PlainEvent, has, interfere}
@@ -108,11 +108,11 @@ passed_more ordered mentions start place one other second i j none passed = λ y
     ]
 
 -- keys by atoms and places
-atoms_rise : (a p b q : ℕ) → a * 4294967296 + p ≤ b * 4294967296 + q → q < 4294967296 → a ≤ b
+atoms_rise : (a p b q : ℕ) → a * 18446744073709551616 + p ≤ b * 18446744073709551616 + q → q < 18446744073709551616 → a ≤ b
 atoms_rise a p b q l k = omega arith
 
-places_rise : (a p b q : ℕ) → a * 4294967296 + p ≤ b * 4294967296 + q → a ≡ b → p ≤ q
-places_rise a p b q l e = let f : a * 4294967296 ≡ b * 4294967296 = ap (λ n. n * 4294967296) e in omega (arith, l, f)
+places_rise : (a p b q : ℕ) → a * 18446744073709551616 + p ≤ b * 18446744073709551616 + q → a ≡ b → p ≤ q
+places_rise a p b q l e = let f : a * 18446744073709551616 ≡ b * 18446744073709551616 = ap (λ n. n * 18446744073709551616) e in omega (arith, l, f)
 
 keys_rise : (ordered : List Window) (mentions : List Mention) → IsSwept ordered mentions → (x y : ℕ) (m n : Mention) → x ≤ y → IsAt mentions x m → IsAt mentions y n → key m ≤ key n
 keys_rise ordered mentions swept x y m n l i j =
@@ -121,8 +121,8 @@ keys_rise ordered mentions swept x y m n l i j =
     let f : key (get_or mentions y n) ≡ key n = ap key j.1 in
     omega (arith, h, e, f)
 
-small : (ordered : List Window) (mentions : List Mention) → IsSwept ordered mentions → (y : ℕ) (n : Mention) → IsAt mentions y n → n.place < 4294967296
-small ordered mentions swept y n j = let h : n.place < length ordered = swept.within y n j in let k : length ordered < 4294967296 = swept.few in omega (arith, h, k)
+small : (ordered : List Window) (mentions : List Mention) → IsSwept ordered mentions → (y : ℕ) (n : Mention) → IsAt mentions y n → n.place < 18446744073709551616
+small ordered mentions swept y n j = let h : n.place < length ordered = swept.within y n j in let k : length ordered < 18446744073709551616 = swept.few in omega (arith, h, k)
 
 atom_order : (ordered : List Window) (mentions : List Mention) → IsSwept ordered mentions → (x y : ℕ) (m n : Mention) → x ≤ y → IsAt mentions x m → IsAt mentions y n → m.atom ≤ n.atom
 atom_order ordered mentions swept x y m n l i j = atoms_rise m.atom m.place n.atom n.place (keys_rise ordered mentions swept x y m n l i j) (small ordered mentions swept y n j)
@@ -213,9 +213,9 @@ mentions_more ws i d so_far new all l is h =
 
 -- ---- all together
 
-pub swept_from : (windows ordered : List Window) (before mentions : List Mention) → length windows < 4294967296 → IsPermutation windows ordered → IsNonDecreasingBy (λ w. w.low) ordered → before ≡ mentions_from 0 ordered → IsPermutation before mentions → IsNonDecreasingBy key mentions → IsSwept ordered mentions
+pub swept_from : (windows ordered : List Window) (before mentions : List Mention) → length ordered < 18446744073709551616 → IsPermutation windows ordered → IsNonDecreasingBy (λ w. w.low) ordered → before ≡ mentions_from 0 ordered → IsPermutation before mentions → IsNonDecreasingBy key mentions → IsSwept ordered mentions
 swept_from windows ordered before mentions few moved up is shuffled by_atoms = record {
-  few = let e : length ordered ≡ length windows = length_permutation windows ordered moved in omega (arith, few, e);
+  few = few;
   rises = up;
   by_atoms = by_atoms;
   within = λ i m at.
@@ -276,16 +276,10 @@ have_met windows ordered v w moved h = (Contains-permutation ordered windows v (
 
 -- ---- in the lists of the code
 
-pub few_given : (windows ordered given : List Window) → length windows < 4294967296 → IsPermutation windows ordered → given ≡ ordered → length given < 4294967296
-few_given windows ordered given few moved is =
-    let e : length ordered ≡ length windows = length_permutation windows ordered moved in
-    let f : length given ≡ length ordered = ap length is in
-    omega (arith, few, e, f)
-
-pub swept_given : (windows ordered first second : List Window) (before mentions given : List Mention) → length windows < 4294967296 → IsPermutation windows ordered → IsNonDecreasingBy (λ w. w.low) ordered → first ≡ ordered → before ≡ mentions_from 0 first →
+pub swept_given : (windows ordered first second : List Window) (before mentions given : List Mention) → length first < 18446744073709551616 → IsPermutation windows ordered → IsNonDecreasingBy (λ w. w.low) ordered → first ≡ ordered → before ≡ mentions_from 0 first →
     IsPermutation before mentions → IsNonDecreasingBy key mentions → second ≡ ordered → given ≡ mentions → IsSwept second given
 swept_given windows ordered first second before mentions given few moved up e is shuffled by_atoms f g =
-    subst (λ ws. IsSwept ws given) (sym f) (subst (IsSwept ordered) (sym g) (swept_from windows ordered before mentions few moved up (is ∙ ap (mentions_from 0) e) shuffled by_atoms))
+    subst (λ ws. IsSwept ws given) (sym f) (subst (IsSwept ordered) (sym g) (swept_from windows ordered before mentions (subst (λ ws. length ws < 18446744073709551616) e few) moved up (is ∙ ap (mentions_from 0) e) shuffled by_atoms))
 
 pub met_answered : (windows ordered first second : List Window) (before mentions given : List Mention) → IsPermutation windows ordered → first ≡ ordered → before ≡ mentions_from 0 first → IsPermutation before mentions → second ≡ ordered → given ≡ mentions →
     (r : Option MetWindows) → MatchOption r ((x : ℕ) → x < length given → PassesFrom second given x) (λ m. HaveMet second m.one m.other) → MatchOption r (NoneMeet (points_of windows)) (λ m. HaveMet windows m.one m.other)

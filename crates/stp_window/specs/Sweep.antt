@@ -41,7 +41,7 @@ mentions_from place (w ∷ ws) = mentions_by place w.event ++ mentions_from (pla
 
 -- a number by which mentions are in the order of their atoms, and those of one atom in the order of their places
 abbrev pub key : Mention → ℕ
-key m = m.atom * 4294967296 + m.place
+key m = m.atom * 18446744073709551616 + m.place
 
 -- ---- the sweep
 
@@ -51,7 +51,7 @@ IsAt xs i x = (i < length xs) × (slice_index_or xs i x ≡ x)
 
 -- windows in the order of their beginnings, and mentions of atoms by windows at their places, in order
 pub record IsSwept (ordered : List Window) (mentions : List Mention) : Type 0 where
-  pub few : length ordered < 4294967296
+  pub few : length ordered < 18446744073709551616
   pub rises : IsNonDecreasingBy (λ w. w.low) ordered
   pub by_atoms : IsNonDecreasingBy key mentions
   pub within : (i : ℕ) (m : Mention) → IsAt mentions i m → m.place < length ordered

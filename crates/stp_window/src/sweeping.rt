@@ -20,7 +20,7 @@ use stp_cond::{Event, interfere};
 #[derive(Clone, Copy)]
 pub(crate) struct Mention {
     pub(crate) atom: u32,
-    pub(crate) place: u32,
+    pub(crate) place: usize,
 }
 
 /// Two windows that have a common moment, and whose events interfere.
@@ -31,7 +31,7 @@ pub struct MetWindows<'a> {
 }
 
 /// Puts mentions of these atoms at the end of a list.
-fn push_atoms(mentions: &mut Vec<Mention>, atoms: &[AtomId], place: u32) -> Result<(), Memory>
+fn push_atoms(mentions: &mut Vec<Mention>, atoms: &[AtomId], place: usize) -> Result<(), Memory>
     ensures { OnOk result (mentions.new.items ≡ mentions.old.items ++ map (mention_at place) atoms.now) }
 {
     for atom in atoms {
@@ -44,7 +44,7 @@ fn push_atoms(mentions: &mut Vec<Mention>, atoms: &[AtomId], place: u32) -> Resu
 }
 
 /// Puts the mentions by an event at the end of a list.
-fn push_event(mentions: &mut Vec<Mention>, event: &Event<'_>, place: u32) -> Result<(), Memory>
+fn push_event(mentions: &mut Vec<Mention>, event: &Event<'_>, place: usize) -> Result<(), Memory>
     ensures { OnOk result (mentions.new.items ≡ mentions.old.items ++ mentions_by place event.now) }
 {
     push_atoms(mentions, event.reads, place)?;
@@ -54,12 +54,12 @@ fn push_event(mentions: &mut Vec<Mention>, event: &Event<'_>, place: u32) -> Res
 
 /// The mentions by these windows.
 fn mentions_of(alloc: Global, windows: &[Window<'_>]) -> Result<Vec<Mention>, Memory>
-    requires { length windows.now < 2 ^ 32 }
-    ensures { IfOk result (λ r. r.items ≡ mentions_from 0 windows.now) }
+    ensures all { IfOk result (λ r. r.items ≡ mentions_from 0 windows.now) }
+    ensures few { IfOk result (λ r. length windows.now < 2 ^ 64) }
 {
-    let mut mentions = Vec::new(alloc);
+    let mut mentions = Vec::with_capacity(alloc, windows.len())?;
     for (place, window) in windows.iter().enumerate() {
-        push_event(&mut mentions, &window.event, place as u32)?;
+        push_event(&mut mentions, &window.event, place)?;
     }
     Ok(mentions)
 }
@@ -69,7 +69,7 @@ fn by_atoms(mentions: &mut Vec<Mention>) -> Result<(), Memory>
     ensures same { OnOk result (IsPermutation mentions.old.items mentions.new.items) }
     ensures ordered { OnOk result (IsNonDecreasingBy key mentions.new.items) }
 {
-    mentions.sort_by_key(|m| u64::from(m.atom) * 4_294_967_296 + u64::from(m.place))?;
+    mentions.sort_by_key(|m| u128::from(m.atom) * 18_446_744_073_709_551_616 + m.place as u128)?;
     Ok(())
 }
 
@@ -103,13 +103,13 @@ fn meeting_from<'a>(
     ensures { MatchOption result (PassesFrom ordered.now mentions.now start) (λ m. HaveMet ordered.now m.one m.other) }
 {
     let first = mentions[start];
-    let one = ordered[first.place as usize];
+    let one = ordered[first.place];
     for place in start + 1..mentions.len() {
         let second = mentions[place];
         if second.atom != first.atom {
             return None;
         }
-        let other = ordered[second.place as usize];
+        let other = ordered[second.place];
         if one.high < other.low {
             return None;
         }
@@ -142,7 +142,6 @@ pub fn meeting_windows<'a>(
     alloc: Global,
     windows: &[Window<'a>],
 ) -> Result<Option<MetWindows<'a>>, Memory>
-    requires { length windows.now < 2 ^ 32 }
     ensures { IfOk result (λ r. MatchOption r (NoneMeet (points_of windows.now)) (λ m. HaveMet windows.now m.one m.other)) }
 {
     let ordered = by_lows(alloc, windows)?;
