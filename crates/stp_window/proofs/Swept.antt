@@ -1,5 +1,5 @@
 -- A sweep that finds nothing has passed all points that interfere.
-use Rattle.std.proofs.Common.{◌≡◌, ℕ, zero, suc, ◌+◌, ◌*◌, ◌<◌, ◌≤◌, ◌==◌, nat_le, Bool, true, false, not, ◌&&◌, ◌||◌, List, [], ◌∷◌, ◌++◌, map, drop, length, get_or, Contains, IsPermutation, Option, Some, None, MatchOption, ◌⊎◌, inl, inr, refl, ap, sym, ◌∙◌, subst, arith, true≢false, append_assoc}
+use Rattle.std.proofs.Common.{◌≡◌, ℕ, zero, suc, ◌+◌, ◌*◌, ◌<◌, ◌≤◌, ◌==◌, nat_le, Bool, true, false, not, ◌&&◌, ◌||◌, List, [], ◌∷◌, ◌++◌, map, drop, length, get_or, Contains, IsPermutation, Option, Some, None, MatchOption, ◌⊎◌, inl, inr, refl, ap, sym, ◌∙◌, subst, arith, true≢false, append_assoc, is_some}
 use Rattle.std.specs.List.Sorted.{IsNonDecreasingBy}
 use Rattle.std.proofs.lemmas.Bool.{cases_lt, leb-true, le-leb}
 use Rattle.std.proofs.lemmas.Bool.Decides.{nat_tests}
@@ -21,7 +21,7 @@ use Rattle.stp_window.specs.declared.sweeping.Mention.{Mention}
 use Rattle.stp_window.specs.declared.sweeping.MetWindows.{MetWindows}
 use Rattle.stp_window.specs.Windows.{Point, Meet, may_meet}
 use Rattle.stp_window.specs.Views.{point_of, points_of}
-use Rattle.stp_window.specs.Sweep.{Clash, NoneMeet, HaveMet, mention_at, mentions_by, mentions_from, key, IsAt, IsSwept, PassesFrom}
+use Rattle.stp_window.specs.Sweep.{Clash, ClashesWithNone, NoneMeet, HaveMet, mention_at, mentions_by, mentions_from, key, IsAt, IsSwept, PassesFrom}
 
 -- ---- items at places
 
@@ -287,3 +287,15 @@ met_answered windows ordered first second before mentions given moved e is shuff
     none_meet windows ordered before mentions moved (is ∙ ap (mentions_from 0) e) shuffled
     (subst (λ ms. (x : ℕ) → x < length ms → PassesFrom ordered ms x) g (subst (λ ws. (x : ℕ) → x < length given → PassesFrom ws given x) f h))
 met_answered windows ordered first second before mentions given moved e is shuffled f g (Some m) h = have_met windows ordered m.one m.other moved (subst (λ ws. HaveMet ws m.one m.other) f h)
+
+-- ---- places
+
+pub none_meet_by_windows : (windows : List Window) → ((v : Window) → Contains windows v → ClashesWithNone windows v) → NoneMeet (points_of windows)
+none_meet_by_windows windows none p q i j clash =
+    let v = mapped_member point_of windows p i in
+    let w = mapped_member point_of windows q j in
+    none v.0 v.1 w.0 w.1 (subst (Clash (point_of v.0)) (sym w.2) (subst (λ (x : Point). Clash x q) (sym v.2) clash))
+
+pub none_found : (P : Type 0) (Q : MetWindows → Type 0) (r : Option MetWindows) → is_some r ≡ false → MatchOption r P Q → P
+none_found P Q None e h = h
+none_found P Q (Some m) e h = absurd (true≢false e)

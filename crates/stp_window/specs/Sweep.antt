@@ -64,3 +64,15 @@ PassesFrom ordered mentions x =
 -- these two windows meet and interfere
 abbrev pub HaveMet : List Window → Window → Window → Type 0
 HaveMet windows v w = Contains windows v × Contains windows w × Clash (point_of v) (point_of w)
+
+-- the window at a place clashes with none of these
+abbrev pub ClashesWithNone : List Window → Window → Type 0
+ClashesWithNone windows v = (w : Window) → Contains windows w → Clash (point_of v) (point_of w) → ⊥
+
+-- a window clashes with the one at this place
+abbrev pub ClashesAt : List Window → Window → ℕ → Type 0
+ClashesAt windows v j = (w : Window) × IsAt windows j w × Clash (point_of v) (point_of w)
+
+-- the windows at these places clash
+abbrev pub ClashAt : List Window → ℕ → ℕ → Type 0
+ClashAt windows i j = (v : Window) × IsAt windows i v × ClashesAt windows v j

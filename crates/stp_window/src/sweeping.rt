@@ -84,7 +84,7 @@ fn by_lows<'a>(alloc: Global, windows: &[Window<'a>]) -> Result<Vec<Window<'a>>,
 }
 
 /// Whether the events of two windows are of different steps, may meet and interfere.
-fn clash(one: &Window<'_>, other: &Window<'_>) -> bool
+pub(crate) fn clash(one: &Window<'_>, other: &Window<'_>) -> bool
     ensures { result ≡ (not (one.now.step == other.now.step) && (may_meet (point_of one.now) (point_of other.now) && interfere (event_of one.now.event) (event_of other.now.event))) }
 {
     one.step != other.step && windows_meet(one, other) && interfere(&one.event, &other.event)
