@@ -16,6 +16,7 @@ use crate::over_all::{OverAll, over_alls_of};
 use crate::touching::{beginning_at, unsettled_at};
 use std::alloc::Global;
 use stp_base::{List, Memory, StateRow, StepId};
+use stp_split::known_row;
 use stp_window::{Lasting, Window};
 
 /// Steps whose ends come late, so that what has to hold inside one of these steps does not hold at a
@@ -35,8 +36,9 @@ fn late_among(
 {
     let unsettled = unsettled_at(alloc, windows, time)?;
     let begins = beginning_at(alloc, windows, time)?;
+    let known = known_row(alloc, &unsettled, row)?;
     for one in over_alls {
-        if let Some(late) = late_at(alloc, one, &unsettled, &begins, row, time)? {
+        if let Some(late) = late_at(alloc, one, &unsettled, &begins, &known, row, time)? {
             return Ok(Some(late));
         }
     }

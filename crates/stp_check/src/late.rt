@@ -6,6 +6,7 @@ ghost use Rattle.stp_cond.specs.Events.{IsEventInRange};
 ghost use Rattle.stp_cond.specs.Truth.{is_below, state_of_row};
 ghost use Rattle.stp_split.specs.Cases.{AreCases, without_step};
 ghost use Rattle.stp_split.specs.Judged.{IsAlways};
+ghost use Rattle.stp_split.specs.Known.{IsKnownRow};
 ghost use Rattle.stp_window.specs.Views.{points_of, span_of};
 ghost use Rattle.stp_window.specs.Windows.{WindowBox};
 ghost use Rattle.stp_check.specs.Ends.{AreJudged, IsLateWithout, IsSeenAt};
@@ -15,8 +16,8 @@ use crate::over_all::OverAll;
 use crate::touching::is_due;
 use std::alloc::Global;
 use stp_base::{List, Memory, StateRow, StepId};
-use stp_cond::Cond;
-use stp_split::{ends, failing};
+use stp_cond::{Cond, Three};
+use stp_split::{ends, failing, is_known_to_hold};
 use stp_window::Window;
 
 /// Whether a step is among these.
@@ -52,16 +53,22 @@ fn late_for(
     number: u32,
     cond: &Cond<'_>,
     unsettled: &[Window<'_>],
+    known: &[Three],
     row: &StateRow,
 ) -> Result<Option<List<StepId>>, Memory>
     requires cond { is_below (length row.now) cond.now ≡ true }
     requires events { All (λ w. IsEventInRange (length row.now) w.event) unsettled.now }
     requires cases { AreCases (points_of unsettled.now) }
+    requires known { IsKnownRow known.now (points_of unsettled.now) (state_of_row row.now) }
+    requires len { length known.now ≡ length row.now }
     ensures { let others = without_step number (points_of unsettled.now) in
         IfOk result (λ r. MatchOption r
         (IsAlways cond.now true others (state_of_row row.now))
         (λ late. IsLateWithout cond.now number others (state_of_row row.now) (numbers_of late))) }
 {
+    if is_known_to_hold(cond, known) {
+        return Ok(None);
+    }
     let others = ends::without_step(alloc, unsettled, number)?;
     let Some(come) = failing(alloc, cond, true, &others, row)? else {
         return Ok(None);
@@ -79,12 +86,15 @@ pub(crate) fn late_at(
     over_all: &OverAll<'_>,
     unsettled: &[Window<'_>],
     begins: &[Window<'_>],
+    known: &[Three],
     row: &StateRow,
     time: u128,
 ) -> Result<Option<List<StepId>>, Memory>
     requires over { is_below (length row.now) over_all.now.lasting.inside.over.now ≡ true }
     requires events { All (λ w. IsEventInRange (length row.now) w.event) unsettled.now }
     requires cases { AreCases (points_of unsettled.now) }
+    requires known { IsKnownRow known.now (points_of unsettled.now) (state_of_row row.now) }
+    requires len { length known.now ≡ length row.now }
     ensures { (b : WindowBox) → IsSeenAt b time row.now (points_of unsettled.now) (points_of begins.now) → Contains b.spans (span_of over_all.now.lasting) →
         IfOk result (λ r. MatchOption r (AreJudged b time over_all.now) (λ late. IsBroken b (numbers_of late))) }
 {
@@ -94,7 +104,7 @@ pub(crate) fn late_at(
     }
     for member in over_all.members.as_slice() {
         if is_due(member, begins, owner.start, time) {
-            if let Some(late) = late_for(alloc, owner.number, member, unsettled, row)? {
+            if let Some(late) = late_for(alloc, owner.number, member, unsettled, known, row)? {
                 return Ok(Some(late));
             }
         }

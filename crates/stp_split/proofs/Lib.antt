@@ -4,3 +4,4 @@ pub mod Turned
 pub mod Answered
 pub mod Weights
 pub mod Loops
+pub mod KnownRows

@@ -3,8 +3,10 @@
 
 pub mod ends;
 pub mod judging;
+pub mod knowing;
 pub mod laws;
 mod turning;
 
 pub use ends::without_step;
 pub use judging::failing;
+pub use knowing::{is_known_to_hold, known_row};
