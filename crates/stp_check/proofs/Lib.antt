@@ -1,8 +1,6 @@
 mod Carried
-mod Choosing
-mod Coming
-mod Unturned
-mod Judging
+mod OpenEnds
+mod Inside
 mod Moments
 mod InBoxes
 mod Timing

@@ -1,23 +1,29 @@
 -- Steps one after another, and moments one after another.
-use Rattle.std.proofs.Common.{◌≡◌, ℕ, suc, ◌+◌, ◌<◌, ◌≤◌, nat_lt, Bool, true, List, [], ◌∷◌, map, take, drop, length, filter, get_or, All, Contains, IsPermutation, Option, None, Some, MatchOption, inl, inr, refl, ap, sym, ◌∙◌, subst, arith, zero, add-one}
+use Rattle.std.proofs.Common.{◌≡◌, ℕ, suc, ◌+◌, ◌<◌, ◌≤◌, nat_lt, ◌==◌, Bool, true, List, [], ◌∷◌, map, take, drop, length, filter, get_or, All, Contains, IsPermutation, Option, None, Some, MatchOption, inl, inr, refl, ap, sym, ◌∙◌, subst, arith, zero, add-one}
 use Rattle.std.specs.List.{list_all}
 use Rattle.std.specs.List.Sorted.{IsNonDecreasingBy}
 use Rattle.std.proofs.lemmas.Bool.{cases_lt, ltb-true, and_parts}
 use Rattle.std.proofs.lemmas.List.{take_all}
-use Rattle.std.proofs.lemmas.List.Elements.{All-map, All-more}
+use Rattle.std.proofs.lemmas.List.Elements.{All-more}
 use Rattle.std.proofs.lemmas.List.Sorted.{All-permutation}
 use Rattle.stp_strength.specs.Splitting.{applied}
+use Rattle.stp_cond.specs.declared.cond.Cond.{Cond}
 use Rattle.stp_cond.specs.Atoms.{set_of}
 use Rattle.stp_cond.specs.Events.{IsEventInRange}
 use Rattle.stp_cond.specs.Truth.{is_below, state_of_row}
 use Rattle.stp_cond.proofs.Rising.{rises, set_rises, has_set, has_from_Contains, Contains_from_has}
-use Rattle.stp_happen.proofs.Members.{here, member_map, each_of, all_of, all_pairs, each_passes, kept_alike}
+use Rattle.stp_happen.proofs.Members.{here, member_map, mapped_member, each_of, all_of, all_pairs, each_passes, kept_alike}
 use Rattle.stp_window.specs.Views.{point_of, points_of, span_of, spans_of}
-use Rattle.stp_window.specs.Windows.{WindowBox, IsProper, is_unsettled}
+use Rattle.stp_window.specs.Windows.{Point, OpenSpan, WindowBox, IsProper, is_unsettled}
+use Rattle.stp_window.proofs.LastWay.{started}
 use Rattle.stp_strength.specs.Facts.{IsKeptAt, lows}
 use Rattle.stp_strength.specs.Failures.{all_calm}
 use Rattle.stp_strength.proofs.Checked.{lows_of}
-use Rattle.stp_check.specs.Late.{box_inside, IsKept, IsKeptThen, IsRowAt, IsViewAt}
+use Rattle.stp_split.specs.Cases.{AreCases}
+use Rattle.stp_check.specs.Ends.{beginning, IsMoment, IsJudged, AreJudged, IsSeenAt}
+use Rattle.stp_check.specs.Late.{box_inside, IsKept, IsRowAt}
+use Rattle.stp_check.proofs.OpenEnds.{few_moments_suffice}
+use Rattle.stp_check.proofs.Inside.{kept_by_members}
 use Rattle.stp_check.proofs.Carried.{row_is_certain}
 use Rattle.stp_window.specs.declared.windows.Window.{Window}
 use Rattle.stp_window.specs.declared.windows.Lasting.{Lasting}
@@ -39,15 +45,19 @@ lasting_in over_alls = map (λ h. h.lasting) over_alls
 pub span_there : (over_alls : List OverAll) (i : ℕ) (h : OverAll) → i < length over_alls → h ≡ get_or over_alls i h → Contains (spans_of (lasting_in over_alls)) (span_of h.lasting)
 span_there over_alls i h l is = member_map span_of (lasting_in over_alls) h.lasting (member_map (λ (o : OverAll). o.lasting) over_alls h (i, l, sym is))
 
-pub view_of : (b : WindowBox) (t : ℕ) (row : List Bool) (windows given : List Window) → b.points ≡ points_of windows → given ≡ filter (λ w. is_unsettled t (point_of w)) windows → IsRowAt b t row → IsViewAt b t row (points_of given)
-view_of b t row windows given are e at_row = record {
-  at_row = at_row;
-  are_unsettled = ap points_of e ∙ (sym (kept_alike point_of (is_unsettled t) (λ w. is_unsettled t (point_of w)) windows (λ w i. refl)) ∙ ap (filter (is_unsettled t)) (sym are));
+pub seen_at : (b : WindowBox) (t : ℕ) (row : List Bool) (windows given begun : List Window) → b.points ≡ points_of windows → given ≡ filter (λ w. is_unsettled t (point_of w)) windows → begun ≡ filter (λ w. w.low == t) windows → IsRowAt b t row →
+    IsSeenAt b t row (points_of given) (points_of begun)
+seen_at b t row windows given begun are e f at_row = record {
+  view = record {
+    at_row = at_row;
+    are_unsettled = ap points_of e ∙ (sym (kept_alike point_of (is_unsettled t) (λ w. is_unsettled t (point_of w)) windows (λ w i. refl)) ∙ ap (filter (is_unsettled t)) (sym are));
+  };
+  are_beginning = ap points_of f ∙ (sym (kept_alike point_of (λ p. p.low == t) (λ w. w.low == t) windows (λ w i. refl)) ∙ ap (beginning t) (sym are));
 }
 
-pub all_held : (b : WindowBox) (t i : ℕ) (over_alls : List OverAll) → length over_alls ≤ i → All (λ h. IsKeptAt b (span_of h.lasting) t) (take i over_alls) → All (λ s. IsKeptAt b s t) (spans_of (lasting_in over_alls))
-all_held b t i over_alls l all =
-    All-map (λ s. IsKeptAt b s t) span_of (lasting_in over_alls) (All-map (λ (n : Lasting). IsKeptAt b (span_of n) t) (λ (h : OverAll). h.lasting) over_alls (subst (All (λ (h : OverAll). IsKeptAt b (span_of h.lasting) t)) (take_all i over_alls l) all))
+-- the windows that are unsettled are cases
+pub open_cases : (t : ℕ) (windows given : List Window) → given ≡ filter (λ w. is_unsettled t (point_of w)) windows → AreCases (filter (is_unsettled t) (points_of windows)) → AreCases (points_of given)
+open_cases t windows given e cases = subst AreCases (kept_alike point_of (is_unsettled t) (λ w. is_unsettled t (point_of w)) windows (λ w i. refl) ∙ ap points_of (sym e)) cases
 
 pub held_below : (n : ℕ) (over_alls : List OverAll) (spans : List Lasting) → lasting_in over_alls ≡ spans → All (λ s. is_below n s.inside.over.now ≡ true) spans → All (λ h. is_below n h.lasting.inside.over.now ≡ true) over_alls
 held_below n over_alls spans e all =
@@ -96,13 +106,28 @@ row_at windows ordered spans initial row place t proper calm moved up fits ended
   is_certain = λ a. is a ∙ row_is_certain (box_inside windows spans initial) proper calm windows ordered refl moved up place t fits ended later a;
 }
 
-pub all_moments : (windows : List Window) (spans : List Lasting) (initial : List Bool) (i : ℕ) (ts : List ℕ) → ts ≡ set_of (map (λ w. w.low) windows) → length ts ≤ i → All (IsKeptThen (box_inside windows spans initial)) (take i ts) → IsKept (box_inside windows spans initial)
-all_moments windows spans initial i ts e l all =
+-- each moment of a member is one at which a window begins
+moment_is_low : (b : WindowBox) → IsProper b → (s : OpenSpan) → Contains b.spans s → (cond : Cond) (u : ℕ) → IsMoment b s cond u → Contains (lows b) u
+moment_is_low b proper s there cond u (inl e) =
+    let p = (started b proper s there).2 in
+    subst (Contains (lows b)) (p.2 ∙ sym e) (member_map (λ (q : Point). q.low) b.points p.0 p.1)
+moment_is_low b proper s there cond u (inr (p, i, touching, e)) = subst (Contains (lows b)) e (member_map (λ (q : Point). q.low) b.points p i)
+
+pub all_moments : (windows : List Window) (spans : List Lasting) (over_alls : List OverAll) (initial : List Bool) (i : ℕ) (ts : List ℕ) → IsProper (box_inside windows spans initial) → all_calm (box_inside windows spans initial) ≡ true → lasting_in over_alls ≡ spans →
+    ts ≡ set_of (map (λ w. w.low) windows) → length ts ≤ i → All (λ t. All (AreJudged (box_inside windows spans initial) t) over_alls) (take i ts) → IsKept (box_inside windows spans initial)
+all_moments windows spans over_alls initial i ts proper calm same e l all =
     let b = box_inside windows spans initial in
     all_pairs (IsKeptAt b) b.spans (lows b) (λ s t j k.
-    let low : Contains (map (λ w. w.low) windows) t = subst (λ ns. Contains ns t) (sym (lows_of windows)) k in
-    let there : Contains ts t = subst (λ ns. Contains ns t) (sym e) (Contains_from_has (set_of (map (λ w. w.low) windows)) t (has_set (map (λ w. w.low) windows) t ∙ has_from_Contains (map (λ w. w.low) windows) t low)) in
-    each_of (λ s. IsKeptAt b s t) b.spans (each_of (IsKeptThen b) ts (subst (All (IsKeptThen b)) (take_all i ts l) all) t there) s j)
+    let n = mapped_member span_of spans s j in
+    let h = mapped_member (λ (o : OverAll). o.lasting) over_alls n.0 (subst (λ ns. Contains ns n.0) (sym same) n.1) in
+    let is : span_of h.0.lasting ≡ s = ap span_of h.2 ∙ n.2 in
+    let there : Contains b.spans (span_of h.0.lasting) = subst (Contains b.spans) (sym is) j in
+    subst (λ x. IsKeptAt b x t) is
+    (kept_by_members b h.0 (λ c m. few_moments_suffice b proper calm (span_of h.0.lasting) c (λ u moment.
+    let low : Contains (map (λ w. w.low) windows) u = subst (λ ns. Contains ns u) (sym (lows_of windows)) (moment_is_low b proper (span_of h.0.lasting) there c u moment) in
+    let at : Contains ts u = subst (λ ns. Contains ns u) (sym e) (Contains_from_has (set_of (map (λ w. w.low) windows)) u (has_set (map (λ w. w.low) windows) u ∙ has_from_Contains (map (λ w. w.low) windows) u low)) in
+    let judged = each_of (λ v. All (AreJudged b v) over_alls) ts (subst (All (λ v. All (AreJudged b v) over_alls)) (take_all i ts l) all) u at in
+    each_of (IsJudged b (span_of h.0.lasting) u) h.0.members (each_of (AreJudged b u) over_alls judged h.0 h.1) c m moment)) t))
 
 -- ---- one more moment, in the lists of the code
 
@@ -126,7 +151,8 @@ next_ended ordered given start place i ts begins initial new e f l before done =
     let now : IsCarried ordered start place (get_or ts i 0) initial new = subst (λ ws. IsCarried ws start place (get_or ts i 0) initial new) e done in
     ended_later ordered start place i ts begins f l before now.ended
 
-pub next_kept : (windows : List Window) (spans kept : List Lasting) (initial : List Bool) (i : ℕ) (ts : List ℕ) → kept ≡ spans → i < length ts → All (IsKeptThen (box_inside windows spans initial)) (take i ts) → IsKeptThen (box_inside windows kept initial) (get_or ts i 0) →
-    All (IsKeptThen (box_inside windows spans initial)) (take (i + 1) ts)
-next_kept windows spans kept initial i ts f l before now =
-    All-more (IsKeptThen (box_inside windows spans initial)) ts i 0 l before (subst (λ ss. IsKeptThen (box_inside windows ss initial) (get_or ts i 0)) f now)
+pub next_judged : (windows : List Window) (spans kept : List Lasting) (over_alls given : List OverAll) (initial : List Bool) (i : ℕ) (ts : List ℕ) → kept ≡ spans → given ≡ over_alls → i < length ts → All (λ t. All (AreJudged (box_inside windows spans initial) t) over_alls) (take i ts) →
+    All (AreJudged (box_inside windows kept initial) (get_or ts i 0)) given → All (λ t. All (AreJudged (box_inside windows spans initial) t) over_alls) (take (i + 1) ts)
+next_judged windows spans kept over_alls given initial i ts f g l before now =
+    All-more (λ t. All (AreJudged (box_inside windows spans initial) t) over_alls) ts i 0 l before
+    (subst (λ ss. All (AreJudged (box_inside windows ss initial) (get_or ts i 0)) over_alls) f (subst (All (AreJudged (box_inside windows kept initial) (get_or ts i 0))) g now))

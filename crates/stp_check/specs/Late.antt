@@ -24,10 +24,6 @@ box_inside windows steps initial = box_of windows steps initial True
 abbrev pub IsKept : WindowBox → Type 0
 IsKept b = All (λ s. All (IsKeptAt b s) (lows b)) b.spans
 
--- and at one moment
-abbrev pub IsKeptThen : WindowBox → ℕ → Type 0
-IsKeptThen b t = All (λ s. IsKeptAt b s t) b.spans
-
 -- a row has what is certain at a moment of a box in which points that interfere never meet
 pub record IsRowAt (b : WindowBox) (t : ℕ) (row : List Bool) : Type 0 where
   pub proper : IsProper b

@@ -1,5 +1,6 @@
 pub mod Choices
 pub mod Ends
 pub mod Late
+pub mod Members
 pub mod Pairs
 pub mod Verdicts

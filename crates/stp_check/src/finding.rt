@@ -1,18 +1,22 @@
 //! Whether what has to hold inside steps does, whichever unsettled ends have come.
 
-ghost use Rattle.std.specs.Prelude.{◌≡◌, Bool, true, List as Sequence, length, map, All, IfOk, MatchOption};
+ghost use Rattle.std.specs.Prelude.{◌≡◌, Bool, true, List as Sequence, length, filter, map, All, IfOk, MatchOption};
 ghost use Rattle.stp_cond.specs.Events.{IsEventInRange};
 ghost use Rattle.stp_cond.specs.Truth.{is_below};
-ghost use Rattle.stp_window.specs.Windows.{IsProper};
+ghost use Rattle.stp_split.specs.Cases.{AreCases};
+ghost use Rattle.stp_window.specs.Views.{points_of};
+ghost use Rattle.stp_window.specs.Windows.{IsProper, is_unsettled};
 ghost use Rattle.stp_strength.specs.Failures.{all_calm};
-ghost use Rattle.stp_check.specs.Late.{numbers_of, box_inside, IsKept, IsKeptThen, IsBroken, IsRowAt};
+ghost use Rattle.stp_check.specs.Ends.{AreJudged};
+ghost use Rattle.stp_check.specs.Late.{numbers_of, box_inside, IsKept, IsBroken, IsRowAt};
 
 use crate::carrying::{by_ends, carry, moments_of};
 use crate::late::late_at;
 use crate::over_all::{OverAll, over_alls_of};
-use crate::touching::unsettled_at;
+use crate::touching::{beginning_at, unsettled_at};
 use std::alloc::Global;
 use stp_base::{List, Memory, StateRow, StepId};
+use stp_split::known_row;
 use stp_window::{Lasting, Window};
 
 /// Steps whose ends come late, so that what has to hold inside one of these steps does not hold at a
@@ -26,12 +30,15 @@ fn late_among(
 ) -> Result<Option<List<StepId>>, Memory>
     requires events { All (λ w. IsEventInRange (length row.now) w.event) windows.now }
     requires steps { All (λ h. is_below (length row.now) h.lasting.inside.over.now ≡ true) over_alls.now }
+    requires cases { AreCases (filter (is_unsettled time) (points_of windows.now)) }
     ensures { (initial : Sequence Bool) → let b = box_inside windows.now (map (λ h. h.lasting) over_alls.now) initial in
-        IsRowAt b time row.now → IfOk result (λ r. MatchOption r (IsKeptThen b time) (λ late. IsBroken b (numbers_of late))) }
+        IsRowAt b time row.now → IfOk result (λ r. MatchOption r (All (AreJudged b time) over_alls.now) (λ late. IsBroken b (numbers_of late))) }
 {
     let unsettled = unsettled_at(alloc, windows, time)?;
+    let begins = beginning_at(alloc, windows, time)?;
+    let known = known_row(alloc, &unsettled, row)?;
     for one in over_alls {
-        if let Some(late) = late_at(alloc, one, &unsettled, row, time)? {
+        if let Some(late) = late_at(alloc, one, &unsettled, &begins, &known, row, time)? {
             return Ok(Some(late));
         }
     }

@@ -1,22 +1,23 @@
 //! Steps that end late, so that what has to hold inside a step does not hold.
 
-ghost use Rattle.std.specs.Prelude.{◌≡◌, ◌==◌, ◌&&◌, ◌∷◌, true, not, length, map, filter, All, Contains, IfOk, MatchOption};
+ghost use Rattle.std.specs.Prelude.{◌≡◌, ◌∷◌, true, not, length, map, filter, All, Contains, IfOk, MatchOption};
 ghost use Rattle.stp_cond.specs.Atoms.{has};
 ghost use Rattle.stp_cond.specs.Events.{IsEventInRange};
-ghost use Rattle.stp_cond.specs.Truth.{is_below, meaning_of, state_of_row};
-ghost use Rattle.stp_cond.specs.Views.{atoms_of};
-ghost use Rattle.stp_window.specs.Views.{point_of, points_of, span_of};
+ghost use Rattle.stp_cond.specs.Truth.{is_below, state_of_row};
+ghost use Rattle.stp_split.specs.Cases.{AreCases, without_step};
+ghost use Rattle.stp_split.specs.Judged.{IsAlways};
+ghost use Rattle.stp_split.specs.Known.{IsKnownRow};
+ghost use Rattle.stp_window.specs.Views.{points_of, span_of};
 ghost use Rattle.stp_window.specs.Windows.{WindowBox};
-ghost use Rattle.stp_strength.specs.Facts.{IsKeptAt};
-ghost use Rattle.stp_strength.specs.Splitting.{passes_all};
-ghost use Rattle.stp_check.specs.Ends.{touches, IsLateWithout};
-ghost use Rattle.stp_check.specs.Late.{numbers_of, IsBroken, IsViewAt};
+ghost use Rattle.stp_check.specs.Ends.{AreJudged, IsLateWithout, IsSeenAt};
+ghost use Rattle.stp_check.specs.Late.{numbers_of, IsBroken};
 
 use crate::over_all::OverAll;
-use crate::splitting::failing_choice;
-use crate::touching::touching;
+use crate::touching::is_due;
 use std::alloc::Global;
 use stp_base::{List, Memory, StateRow, StepId};
+use stp_cond::{Cond, Three};
+use stp_split::{ends, failing, is_known_to_hold};
 use stp_window::Window;
 
 /// Whether a step is among these.
@@ -45,53 +46,68 @@ fn late_steps(
     Ok(late)
 }
 
-/// Steps whose ends come late, so that what has to hold inside a step does not hold in a row at which these
-/// windows are unsettled, if there are such steps.
-fn late_inside(
+/// A step and other steps whose ends come late, so that a formula does not hold in a row at which these windows are
+/// unsettled, if there are such steps.
+fn late_for(
     alloc: Global,
-    over_all: &OverAll<'_>,
+    number: u32,
+    cond: &Cond<'_>,
     unsettled: &[Window<'_>],
+    known: &[Three],
     row: &StateRow,
 ) -> Result<Option<List<StepId>>, Memory>
-    requires over { is_below (length row.now) over_all.now.lasting.inside.over.now ≡ true }
+    requires cond { is_below (length row.now) cond.now ≡ true }
     requires events { All (λ w. IsEventInRange (length row.now) w.event) unsettled.now }
-    ensures { let ends = points_of (filter (λ w. not (w.step == over_all.now.lasting.owner.number) && touches (atoms_of over_all.now.atoms) (point_of w)) unsettled.now) in
+    requires cases { AreCases (points_of unsettled.now) }
+    requires known { IsKnownRow known.now (points_of unsettled.now) (state_of_row row.now) }
+    requires len { length known.now ≡ length row.now }
+    ensures { let others = without_step number (points_of unsettled.now) in
         IfOk result (λ r. MatchOption r
-        (passes_all (meaning_of over_all.now.lasting.inside.over.now) ends (state_of_row row.now) ≡ true)
-        (λ late. IsLateWithout (meaning_of over_all.now.lasting.inside.over.now) over_all.now.lasting.owner.number ends (state_of_row row.now) (numbers_of late))) }
+        (IsAlways cond.now true others (state_of_row row.now))
+        (λ late. IsLateWithout cond.now number others (state_of_row row.now) (numbers_of late))) }
 {
-    let ends = touching(
-        alloc,
-        unsettled,
-        over_all.lasting.owner.number,
-        over_all.atoms.as_slice(),
-    )?;
-    match failing_choice(alloc, over_all, &ends, 0, row)? {
-        Some(ended) => {
-            let late = late_steps(alloc, over_all.lasting.owner.number, &ends, &ended)?;
-            Ok(Some(late))
-        }
-        None => Ok(None),
+    if is_known_to_hold(cond, known) {
+        return Ok(None);
     }
+    let others = ends::without_step(alloc, unsettled, number)?;
+    let Some(come) = failing(alloc, cond, true, &others, row)? else {
+        return Ok(None);
+    };
+    let late = late_steps(alloc, number, &others, come.as_slice())?;
+    Ok(Some(late))
 }
 
-/// Steps whose ends come late, so that what has to hold inside a step does not hold at a moment, if there
-/// are such steps. The row has what is certain then.
+/// Steps whose ends come late, so that what has to hold inside a step does not hold at a moment at which these
+/// windows are unsettled and these begin, if there are such steps. The row has what is certain then.
+///
+/// Each member is judged by itself, and only where its step starts or one of its atoms may first be written.
 pub(crate) fn late_at(
     alloc: Global,
     over_all: &OverAll<'_>,
     unsettled: &[Window<'_>],
+    begins: &[Window<'_>],
+    known: &[Three],
     row: &StateRow,
     time: u128,
 ) -> Result<Option<List<StepId>>, Memory>
     requires over { is_below (length row.now) over_all.now.lasting.inside.over.now ≡ true }
     requires events { All (λ w. IsEventInRange (length row.now) w.event) unsettled.now }
-    ensures { (b : WindowBox) → IsViewAt b time row.now (points_of unsettled.now) → Contains b.spans (span_of over_all.now.lasting) →
-        IfOk result (λ r. MatchOption r (IsKeptAt b (span_of over_all.now.lasting) time) (λ late. IsBroken b (numbers_of late))) }
+    requires cases { AreCases (points_of unsettled.now) }
+    requires known { IsKnownRow known.now (points_of unsettled.now) (state_of_row row.now) }
+    requires len { length known.now ≡ length row.now }
+    ensures { (b : WindowBox) → IsSeenAt b time row.now (points_of unsettled.now) (points_of begins.now) → Contains b.spans (span_of over_all.now.lasting) →
+        IfOk result (λ r. MatchOption r (AreJudged b time over_all.now) (λ late. IsBroken b (numbers_of late))) }
 {
     let owner = &over_all.lasting.owner;
     if time < owner.start || owner.high <= time {
         return Ok(None);
     }
-    late_inside(alloc, over_all, unsettled, row)
+    for member in over_all.members.as_slice() {
+        if is_due(member, begins, owner.start, time) {
+            if let Some(late) = late_for(alloc, owner.number, member, unsettled, known, row)? {
+                return Ok(Some(late));
+            }
+        }
+    }
+    Ok(None)
 }

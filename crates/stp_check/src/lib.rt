@@ -8,9 +8,7 @@ mod late;
 mod meetings;
 mod over_all;
 mod overlaps;
-mod splitting;
 mod touching;
-mod turning;
 pub mod verdicts;
 
 pub use choices::{Choice, durations};

@@ -1,14 +1,15 @@
 //! Two events of different steps that may meet and interfere.
 
-ghost use Rattle.std.specs.Prelude.{◌≡◌, true, MatchOption};
-ghost use Rattle.std.specs.List.{list_all};
+ghost use Rattle.std.specs.Prelude.{◌≡◌, true, List, IfOk, MatchOption};
+ghost use Rattle.stp_window.specs.Sweep.{AreMet};
 ghost use Rattle.stp_window.specs.Views.{point_of, points_of};
-ghost use Rattle.stp_strength.specs.Failures.{all_pairs_pass, stay_calm as stay_calm_lem};
-ghost use Rattle.stp_check.specs.Pairs.{IsNotCalmWith, AreNotCalm};
+ghost use Rattle.stp_window.specs.Windows.{Point};
+ghost use Rattle.stp_strength.specs.Failures.{all_pairs_pass, stay_calm};
+ghost use Rattle.stp_check.specs.Pairs.{AreNotCalm};
 
-use stp_base::StepId;
-use stp_strength::stay_calm;
-use stp_window::Window;
+use std::alloc::Global;
+use stp_base::{Memory, StepId};
+use stp_window::{MetWindows, Window, meeting_windows};
 
 /// Two steps, and a moment at which both may have an event.
 #[derive(Clone, Copy)]
@@ -18,34 +19,36 @@ pub(crate) struct Meeting {
     pub(crate) time: u128,
 }
 
-/// The first of these events that may meet an event of another step and interferes with it.
-fn first_with<'w, 'a>(one: &Window<'a>, windows: &'w [Window<'a>]) -> Option<&'w Window<'a>>
-    ensures { MatchOption result
-        (list_all (stay_calm_lem (point_of one.now)) (points_of windows.now) ≡ true)
-        (λ w. IsNotCalmWith (point_of one.now) (points_of windows.now) (point_of w.now)) }
+/// The meeting of two windows, that of the step with the lesser number first.
+fn meeting_of(found: &MetWindows<'_>) -> Meeting
+    ensures { (points : List Point) → AreMet points (point_of found.now.one) (point_of found.now.other) → AreNotCalm points result.one.0 result.other.0 result.time }
 {
-    for other in windows {
-        if !stay_calm(one, other) {
-            return Some(other);
+    if found.one.step < found.other.step {
+        Meeting {
+            one: StepId(found.one.step),
+            other: StepId(found.other.step),
+            time: found.one.low.max(found.other.low),
+        }
+    } else {
+        Meeting {
+            one: StepId(found.other.step),
+            other: StepId(found.one.step),
+            time: found.other.low.max(found.one.low),
         }
     }
-    None
 }
 
-/// The steps of the first two of these events that may meet and interfere, and the first moment at which they may.
-pub(crate) fn first_meeting(windows: &[Window<'_>]) -> Option<Meeting>
-    ensures { MatchOption result
-        (all_pairs_pass stay_calm_lem (points_of windows.now) ≡ true)
-        (λ found. AreNotCalm (points_of windows.now) found.one.0 found.other.0 found.time) }
+/// The steps of two of these events that may meet and interfere, and the first moment at which they may.
+pub(crate) fn first_meeting(
+    alloc: Global,
+    windows: &[Window<'_>],
+) -> Result<Option<Meeting>, Memory>
+    ensures { IfOk result (λ r. MatchOption r
+        (all_pairs_pass stay_calm (points_of windows.now) ≡ true)
+        (λ found. AreNotCalm (points_of windows.now) found.one.0 found.other.0 found.time)) }
 {
-    for one in windows {
-        if let Some(other) = first_with(one, windows) {
-            return Some(Meeting {
-                one: StepId(one.step),
-                other: StepId(other.step),
-                time: one.low.max(other.low),
-            });
-        }
-    }
-    None
+    let Some(found) = meeting_windows(alloc, windows)? else {
+        return Ok(None);
+    };
+    Ok(Some(meeting_of(&found)))
 }

@@ -1,46 +1,53 @@
-//! Which unsettled ends touch what has to hold inside a step.
+//! Which windows are open or begin at a moment, and which formulas have to be judged then.
 
-ghost use Rattle.std.specs.Prelude.{◌≡◌, ◌==◌, ◌&&◌, not, filter, IfOk};
-ghost use Rattle.stp_cond.specs.Atoms.{has, have_common as have_common_lem, set_of};
-ghost use Rattle.stp_cond.specs.Views.{atoms_of};
+ghost use Rattle.std.specs.Prelude.{◌≡◌, ◌==◌, ◌||◌, not, filter, IfOk};
+ghost use Rattle.std.specs.List.{list_any};
+ghost use Rattle.stp_cond.specs.Truth.{reads_only};
+ghost use Rattle.stp_window.specs.Certain.{sets as point_sets};
 ghost use Rattle.stp_window.specs.Views.{point_of};
-ghost use Rattle.stp_window.specs.Windows.{is_unsettled as is_unsettled_lem};
-ghost use Rattle.stp_check.specs.Ends.{touches as touches_lem};
+ghost use Rattle.stp_window.specs.Windows.{is_unsettled};
+ghost use Rattle.stp_check.specs.Ends.{touches};
 
 use std::alloc::Global;
-use stp_base::{AtomId, Memory};
+use stp_base::Memory;
+use stp_cond::Cond;
 use stp_window::Window;
 use stp_window::windows::is_open;
+use stp_window::writing::sets;
 
-/// Whether an atom is among ascending ones.
-pub(crate) fn is_among(atoms: &[AtomId], atom: AtomId) -> bool
-    requires { set_of (atoms_of atoms.now) ≡ atoms_of atoms.now }
-    ensures { result ≡ has (atoms_of atoms.now) atom.0 }
+/// Whether an event writes no atom of a formula.
+fn leaves(window: &Window<'_>, cond: &Cond<'_>) -> bool
+    ensures { result ≡ reads_only (λ a. not (point_sets (point_of window.now) a)) cond.now }
 {
-    atoms.binary_search_by_key(&atom.0, |a| a.0).is_ok()
+    match cond {
+        Cond::True | Cond::False => true,
+        Cond::Atom(atom) => !sets(&window.event, *atom),
+        Cond::Not(part) => leaves(window, part),
+        Cond::And(parts) | Cond::Or(parts) => {
+            for part in *parts {
+                if !leaves(window, part) {
+                    return false;
+                }
+            }
+            true
+        }
+    }
 }
 
-/// Whether the one list and the other, which is ascending, have an atom in common.
-fn have_common(one: &[AtomId], other: &[AtomId]) -> bool
-    requires { set_of (atoms_of other.now) ≡ atoms_of other.now }
-    ensures { result ≡ have_common_lem (atoms_of one.now) (atoms_of other.now) }
+/// Whether a formula has to be judged at a moment at which these windows begin: its step starts then, or an event of
+/// one of them writes an atom of it.
+pub(crate) fn is_due(cond: &Cond<'_>, begins: &[Window<'_>], start: u128, time: u128) -> bool
+    ensures { result ≡ ((start == time) || list_any (λ w. touches cond.now (point_of w)) begins.now) }
 {
-    one.iter().any(|atom| is_among(other, *atom))
-}
-
-/// Whether an event adds or deletes one of these atoms, which are ascending.
-fn touches(window: &Window<'_>, atoms: &[AtomId]) -> bool
-    requires { set_of (atoms_of atoms.now) ≡ atoms_of atoms.now }
-    ensures { result ≡ touches_lem (atoms_of atoms.now) (point_of window.now) }
-{
-    have_common(window.event.adds, atoms) || have_common(window.event.dels, atoms)
-}
-
-/// Whether a window has begun by a moment and not ended.
-fn is_unsettled(window: &Window<'_>, time: u128) -> bool
-    ensures { result ≡ is_unsettled_lem time (point_of window.now) }
-{
-    is_open(window.low, window.high, time)
+    if start == time {
+        return true;
+    }
+    for window in begins {
+        if !leaves(window, cond) {
+            return true;
+        }
+    }
+    false
 }
 
 /// The windows that have begun by a moment and not ended.
@@ -49,33 +56,28 @@ pub(crate) fn unsettled_at<'a>(
     windows: &[Window<'a>],
     time: u128,
 ) -> Result<Vec<Window<'a>>, Memory>
-    ensures { IfOk result (λ r. r.items ≡ filter (λ w. is_unsettled_lem time (point_of w)) windows.now) }
+    ensures { IfOk result (λ r. r.items ≡ filter (λ w. is_unsettled time (point_of w)) windows.now) }
 {
     let unsettled = windows
         .iter()
-        .filter(|window| is_unsettled(window, time))
+        .filter(|window| is_open(window.low, window.high, time))
         .copied()
         .collect(alloc)?;
     Ok(unsettled)
 }
 
-/// Those of these windows that are of other steps and touch these atoms, which are ascending.
-pub(crate) fn touching<'a>(
+/// The windows that begin at a moment.
+pub(crate) fn beginning_at<'a>(
     alloc: Global,
     windows: &[Window<'a>],
-    number: u32,
-    atoms: &[AtomId],
+    time: u128,
 ) -> Result<Vec<Window<'a>>, Memory>
-    requires { set_of (atoms_of atoms.now) ≡ atoms_of atoms.now }
-    ensures { IfOk result (λ r. r.items ≡ filter (λ w. not (w.step == number) && touches_lem (atoms_of atoms.now) (point_of w)) windows.now) }
+    ensures { IfOk result (λ r. r.items ≡ filter (λ w. w.low == time) windows.now) }
 {
-    if atoms.is_empty() {
-        return Ok(Vec::new(alloc));
-    }
-    let found = windows
+    let begins = windows
         .iter()
-        .filter(|window| window.step != number && touches(window, atoms))
+        .filter(|window| window.low == time)
         .copied()
         .collect(alloc)?;
-    Ok(found)
+    Ok(begins)
 }

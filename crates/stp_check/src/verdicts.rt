@@ -87,7 +87,7 @@ fn failing_meeting(
         (all_calm (windows_in boxed.now) ≡ true)
         (IsFailure (plain_owned boxed.now))) }
 {
-    let Some(found) = first_meeting(windows) else {
+    let Some(found) = first_meeting(alloc, windows)? else {
         return Ok(None);
     };
     let both = [found.one, found.other];

@@ -12,3 +12,4 @@ pub mod FoldedParts
 pub mod Images
 pub mod Interferes
 pub mod Holding
+pub mod Decided

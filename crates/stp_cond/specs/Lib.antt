@@ -4,6 +4,7 @@ pub mod Views
 pub mod Events
 pub mod Formulas
 pub mod Folded
+pub mod Decided
 pub mod Substituted
 pub mod Laws
 pub mod Interferences

@@ -3,6 +3,7 @@
 
 pub mod cond;
 pub mod conjunctive;
+pub mod deciding;
 pub mod event;
 pub mod folding;
 pub mod gathering;
@@ -15,6 +16,7 @@ pub mod substituting;
 
 pub use cond::{Cond, conjunction, holds, negate};
 pub use conjunctive::conjunctive_event;
+pub use deciding::decide;
 pub use event::Event;
 pub use folding::{fold, fold_and, fold_not, fold_or};
 pub use gathering::atoms;

@@ -7,3 +7,4 @@ pub mod Writers
 pub mod EndLists
 pub mod Later
 pub mod Meetings
+pub mod Swept

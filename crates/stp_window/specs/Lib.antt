@@ -7,3 +7,4 @@ pub mod Boxed
 pub mod Points
 pub mod LastWrites
 pub mod Ends
+pub mod Sweep

@@ -6,10 +6,14 @@ pub mod certain;
 pub mod ends;
 pub mod laws;
 pub mod meeting;
+pub mod places;
+pub mod sweeping;
 pub mod windows;
 pub mod writing;
 
 pub use certain::certain_value;
 pub use ends::unsettled;
 pub use meeting::{PointOf, is_there, may_meet};
+pub use places::{Places, meeting_places};
+pub use sweeping::{MetWindows, meeting_windows};
 pub use windows::{Lasting, Window, lasting_of, windows_of};

@@ -3,8 +3,10 @@ use Rattle.stp_strength.specs.Splitting.{applied}
 use Rattle.stp_cond.specs.Atoms.{set_of}
 use Rattle.stp_cond.specs.Truth.{is_below, state_of_row}
 use Rattle.stp_window.specs.Views.{points_of}
-use Rattle.stp_check.specs.Late.{box_inside, numbers_of, IsKeptThen, IsBroken, IsRowAt}
-use Rattle.stp_check.proofs.Moments.{lasting_in, found_some, found_none, held_below, events_in_order, IsCarried, row_now, next_ended, next_kept, all_moments}
+use Rattle.stp_check.specs.Ends.{AreJudged}
+use Rattle.stp_check.specs.Late.{box_inside, numbers_of, IsBroken, IsRowAt}
+use Rattle.stp_check.proofs.OpenEnds.{unsettled_cases}
+use Rattle.stp_check.proofs.Moments.{lasting_in, found_some, found_none, held_below, events_in_order, IsCarried, row_now, next_ended, next_judged, all_moments}
 use Rattle.stp_window.specs.declared.windows.Lasting.{Lasting}
 use Rattle.stp_check.proofs.finding.first_broken.Goals as goal
 
@@ -36,7 +38,7 @@ returns-in-Some c =
     row_now c.args.windows.now c.in_ok-ordered.ordered.items given c.args.spans.now kept c.args.initial.now c.carry-place.new.row c.loop-time.place c.carry-place.result i ts c.requires.proper c.requires.calm
     c.in_ok-ordered.ensures.same c.in_ok-ordered.ensures.ordered c.deref.ensures.value same (omega arith) c.loop-time.invariant.ended done in
     subst (λ ss. IsBroken (box_inside c.args.windows.now ss c.args.initial.now) (numbers_of c.in-Some.late)) same
-    (found_some (IsKeptThen (box_inside c.args.windows.now kept c.args.initial.now) (get_or ts i 0)) (λ late. IsBroken (box_inside c.args.windows.now kept c.args.initial.now) (numbers_of late)) c.in_ok-late.field-0 c.in-Some.late c.in-Some.is
+    (found_some (All (AreJudged (box_inside c.args.windows.now kept c.args.initial.now) (get_or ts i 0)) c.deref-in-loop-time.result.now) (λ late. IsBroken (box_inside c.args.windows.now kept c.args.initial.now) (numbers_of late)) c.in_ok-late.field-0 c.in-Some.late c.in-Some.is
     (c.in_ok-late.ensures c.args.initial.now row))
 
 pub loop-time-preserved : goal.loop-time-preserved
@@ -62,12 +64,16 @@ loop-time-preserved c =
       within = subst (λ ws. c.carry-place.result ≤ length ws) c.deref.ensures.value c.carry-place.ensures.within.1;
       ended = next_ended c.in_ok-ordered.ordered.items given c.loop-time.place c.carry-place.result i ts (map (λ w. w.low) c.args.windows.now) c.args.initial.now c.carry-place.new.row c.deref.ensures.value moments (omega arith) c.loop-time.invariant.ended done;
       state = subst (λ ws. (a : ℕ) → state_of_row c.carry-place.new.row a ≡ applied (points_of (take c.carry-place.result ws)) (state_of_row c.args.initial.now) a) c.deref.ensures.value done.state;
-      kept =
-          next_kept c.args.windows.now c.args.spans.now kept c.args.initial.now i ts same (omega arith) c.loop-time.invariant.kept
-          (found_none (IsKeptThen (box_inside c.args.windows.now kept c.args.initial.now) (get_or ts i 0)) (λ late. IsBroken (box_inside c.args.windows.now kept c.args.initial.now) (numbers_of late)) c.in_ok-late.field-0 (search rules)
+      judged =
+          next_judged c.args.windows.now c.args.spans.now kept c.in_ok-over_alls.over_alls.items c.deref-in-loop-time.result.now c.args.initial.now i ts same c.deref-in-loop-time.ensures.value (omega arith) c.loop-time.invariant.judged
+          (found_none (All (AreJudged (box_inside c.args.windows.now kept c.args.initial.now) (get_or ts i 0)) c.deref-in-loop-time.result.now) (λ late. IsBroken (box_inside c.args.windows.now kept c.args.initial.now) (numbers_of late)) c.in_ok-late.field-0 (search rules)
           (c.in_ok-late.ensures c.args.initial.now row));
     }
 
+pub late_among-requires-clause-cases : goal.late_among-requires-clause-cases
+late_among-requires-clause-cases c = unsettled_cases (box_inside c.args.windows.now c.args.spans.now c.args.initial.now) c.requires.proper c.requires.calm (get_or c.deref-time-items.result.now c.loop-time.time-index 0)
+
 pub returns : goal.returns
 returns c =
-    all_moments c.args.windows.now c.args.spans.now c.args.initial.now c.loop-time.time-index c.deref-time-items.result.now (c.deref-time-items.ensures.value ∙ c.in_ok-moments.ensures) (omega arith) c.loop-time.invariant.kept
+    all_moments c.args.windows.now c.args.spans.now c.in_ok-over_alls.over_alls.items c.args.initial.now c.loop-time.time-index c.deref-time-items.result.now c.requires.proper c.requires.calm c.in_ok-over_alls.ensures
+    (c.deref-time-items.ensures.value ∙ c.in_ok-moments.ensures) (omega arith) c.loop-time.invariant.judged

@@ -1,9 +1,11 @@
--- The row has what the windows before the place leave, which end by each moment to come, and what has to hold over_alls at the moments so far.
+-- The row has what the windows before the place leave, which end by each moment to come, and all members have been judged at the
+-- moments so far.
 use Rattle.std.proofs.Common.{◌≡◌, ℕ, ◌<◌, ◌≤◌, length, get_or, take, drop, All, Contains}
 use Rattle.stp_strength.specs.Splitting.{applied}
 use Rattle.stp_cond.specs.Truth.{state_of_row}
 use Rattle.stp_window.specs.Views.{points_of}
-use Rattle.stp_check.specs.Late.{box_inside, IsKeptThen}
+use Rattle.stp_check.specs.Ends.{AreJudged}
+use Rattle.stp_check.specs.Late.{box_inside}
 use Rattle.stp_window.specs.declared.windows.Window.{Window}
 use Rattle.stp_check.proofs.finding.first_broken.Given as goal
 
@@ -13,5 +15,5 @@ invariant-loop-time l = record {
   within : l.place ≤ length l.ordered.items;
   ended : (k : ℕ) (d : Window) → k < l.place → (u : ℕ) → Contains (drop l.time-index l.time-items) u → (get_or l.ordered.items k d).high ≤ u;
   state : (a : ℕ) → state_of_row l.row a ≡ applied (points_of (take l.place l.ordered.items)) (state_of_row l.fn.initial) a;
-  kept : All (IsKeptThen (box_inside l.windows l.fn.spans l.fn.initial)) (take l.time-index l.time-items);
+  judged : All (λ t. All (AreJudged (box_inside l.windows l.fn.spans l.fn.initial) t) l.over_alls.items) (take l.time-index l.time-items);
 }

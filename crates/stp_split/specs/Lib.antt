@@ -1,0 +1,4 @@
+pub mod Cases
+pub mod Judged
+pub mod Known
+pub mod Laws
