@@ -10,6 +10,12 @@ pub const MAX_WORD_BYTES: usize = 100;
 pub const MAX_PARAMETERS: usize = 16;
 /// Nodes of a schema's conditions, and of the goal, once quantifiers are expanded.
 pub const MAX_EXPANDED_NODES: u64 = 10_000;
+/// Moments of the timed literals of a problem.
+pub const MAX_TIMED: usize = 100;
+/// Events of a problem whose moments the environment chooses.
+pub const MAX_EVENTS: usize = 30;
+/// The greatest time of an event of the environment.
+pub const MAX_MOMENT: u128 = 100_000_000;
 /// Steps of a plan.
 pub const MAX_STEPS: usize = 500;
 /// Moments in a unit of time.

@@ -17,6 +17,8 @@ use Rattle.stp_happen.proofs.OneFault.{first_fault_is_one}
 use Rattle.stp_report.specs.declared.answer.Answer.{Answer}
 use Rattle.stp_report.specs.declared.answer.Answer.TheVariants as answers
 use Rattle.stp_report.specs.Texts.{line, durations_text, fault_line, text_of}
+use Rattle.stp_cli.specs.declared.refusal.CaseFault.{CaseFault}
+use Rattle.stp_cli.specs.declared.refusal.CaseFault.TheVariants as cases
 use Rattle.stp_cli.specs.declared.refusal.Refusal.{Refusal}
 use Rattle.stp_cli.specs.declared.status.Status.{Status}
 use Rattle.stp_cli.specs.declared.status.Status.TheVariants as statuses
@@ -27,7 +29,7 @@ use Rattle.stp_cli.specs.Calls.{Files, StoreCall, SinkCall, steady_call, silent_
 use Rattle.stp_cli.specs.Words.{Named, Command, command_of, files_of}
 use Rattle.stp_cli.specs.Texts.{no_texts, with_text}
 use Rattle.stp_base.specs.Results.{◌>>=◌}
-use Rattle.stp_cli.specs.Refusals.{refusal, refused, IsOrRefused}
+use Rattle.stp_cli.specs.Refusals.{refusal, refused_at, refused, IsOrRefused}
 use Rattle.stp_cli.specs.Case.{PlainCase, case_of, times_of, grid_of, box_of}
 use Rattle.stp_cli.specs.Loading.{IsStopped, AreLoaded}
 use Rattle.stp_cli.specs.Verdict.{IsStrongVerdict, IsWeakVerdict, IsVerdict}
@@ -39,9 +41,10 @@ use Rattle.stp_cli.specs.Headline.{texts_in, case_in, refusal_on, refusal_in, Sa
 
 -- ---- faults of the outside
 
-fault_free : {A : Type 0} (right : A → Answer → Type 0) → ((a : A) (answer : Answer) → right a answer → status_of answer ≢ statuses.OutsideFault) → (read : Result A Refusal) (answer : Answer)
+fault_free : {A : Type 0} (right : A → Answer → Type 0) → ((a : A) (answer : Answer) → right a answer → status_of answer ≢ statuses.OutsideFault) → (read : Result A CaseFault) (answer : Answer)
     → IsOrRefused right read answer → status_of answer ≢ statuses.OutsideFault
-fault_free right free (Err r) answer is = λ e. let both : statuses.Refused ≡ statuses.OutsideFault = sym (ap status_of is) ∙ e in cc
+fault_free right free (Err cases.Memory) answer is = absurd is
+fault_free right free (Err (cases.Refused r)) answer is = λ e. let both : statuses.Refused ≡ statuses.OutsideFault = sym (ap status_of is) ∙ e in cc
 fault_free right free (Ok a) answer is = free a answer is
 
 free_verdict : (grid : ℕ) (box : PlainBox) (answer : Answer) → IsVerdict grid box answer → status_of answer ≢ statuses.OutsideFault
@@ -98,7 +101,7 @@ module _ (file : Files) (steady : List ℕ → Bool) (faults after : ℕ) where
       let test : nat_lt 1048576 (length bytes) ≡ false = grind (arith, nat_tests, fine.short) in
       rw (there, test) (loaded_in fs (with_text f.role bytes before) texts rest)
 
-  stopped_in : (fs : List Named) (before : Texts) (answer : Answer) → status_of answer ≢ statuses.OutsideFault → IsStopped call fs answer → (r : Refusal) × (texts_in file fs before ≡ Err r) × (answer ≡ refused r)
+  stopped_in : (fs : List Named) (before : Texts) (answer : Answer) → status_of answer ≢ statuses.OutsideFault → IsStopped call fs answer → (r : Refusal) × (texts_in file fs before ≡ Err (cases.Refused r)) × (answer ≡ refused r)
   stopped_in [] before answer inside h = absurd h
   stopped_in (f ∷ fs) before answer inside (inl unread) = absurd (inside (ap status_of unread.answered))
   stopped_in (f ∷ fs) before answer inside (inr (inl long)) =
@@ -136,10 +139,14 @@ same_refusal r s e =
     let at : r.at ≡ s.at = cc in
     ap (λ x. record { file = x; code = r.code; at = r.at }) file ∙ ap (λ x. record { file = s.file; code = x; at = r.at }) code ∙ ap (λ x. record { file = s.file; code = s.code; at = x }) at
 
+exact_refusal : (s : Refusal) (answer : Answer) → answer ≡ refused s → (r : Refusal) → (answer ≡ refused r) ↔ (◌≡◌ {A = Option CaseFault} (Some (cases.Refused s)) (Some (cases.Refused r)))
+exact_refusal s answer is r = (λ e. ap (λ x. Some (cases.Refused x)) (same_refusal s r (sym is ∙ e)), λ e. let same : s ≡ r = cc in is ∙ ap refused same)
+
 -- where what is right is no refusal, a refusal is answered exactly where it stands in the place of a value
-exact_or : {A : Type 0} (right : A → Answer → Type 0) → ((a : A) (answer : Answer) (r : Refusal) → right a answer → answer ≡ refused r → ⊥) → (read : Result A Refusal) (answer : Answer)
-    → IsOrRefused right read answer → (r : Refusal) → (answer ≡ refused r) ↔ (result_err read ≡ Some r)
-exact_or right never (Err s) answer is r = (λ e. ap Some (same_refusal s r (sym is ∙ e)), λ e. let same : s ≡ r = cc in is ∙ ap refused same)
+exact_or : {A : Type 0} (right : A → Answer → Type 0) → ((a : A) (answer : Answer) (r : Refusal) → right a answer → answer ≡ refused r → ⊥) → (read : Result A CaseFault) (answer : Answer)
+    → IsOrRefused right read answer → (r : Refusal) → (answer ≡ refused r) ↔ (result_err read ≡ Some (cases.Refused r))
+exact_or right never (Err cases.Memory) answer is r = absurd is
+exact_or right never (Err (cases.Refused s)) answer is r = exact_refusal s answer is r
 exact_or right never (Ok a) answer is r = (λ e. absurd (never a answer r is e), λ e. absurd (cc))
 
 no_verdict : (grid : ℕ) (box : PlainBox) (answer : Answer) (r : Refusal) → IsVerdict grid box answer → answer ≡ refused r → ⊥
@@ -147,17 +154,19 @@ no_verdict grid box answer r (inl v) e = let both = sym v.answered ∙ e in cc
 no_verdict grid box answer r (inr v) e = let both = sym v.answered ∙ e in cc
 
 module _ (list : List ℕ) where
-  exact_replay : (read : Result PlainCase Refusal) (answer : Answer) → IsOrRefused (IsReplayedCase list) read answer → (r : Refusal)
-      → (answer ≡ refused r) ↔ (result_err (read >>= (λ c. durations_of (times_of c) list)) ≡ Some r)
-  exact_replay (Err s) answer is r = (λ e. ap Some (same_refusal s r (sym is ∙ e)), λ e. let same : s ≡ r = cc in is ∙ ap refused same)
+  exact_replay : (read : Result PlainCase CaseFault) (answer : Answer) → IsOrRefused (IsReplayedCase list) read answer → (r : Refusal)
+      → (answer ≡ refused r) ↔ (result_err (read >>= (λ c. durations_of (times_of c) list)) ≡ Some (cases.Refused r))
+  exact_replay (Err cases.Memory) answer is r = absurd is
+  exact_replay (Err (cases.Refused s)) answer is r = exact_refusal s answer is r
   exact_replay (Ok c) answer is r = exact_or (IsReplay c) (λ ds a s v e. let both = sym v.shown.answered ∙ e in cc) (durations_of (times_of c) list) answer is r
 
-exact_of : (work : Work) (list : List ℕ) (texts : Texts) (answer : Answer) → IsRight work list texts answer → (r : Refusal) → (answer ≡ refused r) ↔ (refusal_on work list texts ≡ Some r)
+exact_of : (work : Work) (list : List ℕ) (texts : Texts) (answer : Answer) → IsRight work list texts answer → (r : Refusal) → (answer ≡ refused r) ↔ (refusal_on work list texts ≡ Some (cases.Refused r))
 exact_of Check list texts answer right r = exact_or (λ c. IsVerdict (grid_of c) (box_of c)) (λ c. no_verdict (grid_of c) (box_of c)) (case_of texts.domain texts.problem texts.plan) answer right r
 exact_of Replay list texts answer right r = exact_replay list (case_of texts.domain texts.problem texts.plan) answer right r
 
-exact_in : (work : Work) (list : List ℕ) (read : Result Texts Refusal) (answer : Answer) → IsOrRefused (IsRight work list) read answer → (r : Refusal) → (answer ≡ refused r) ↔ (refusal_in work list read ≡ Some r)
-exact_in work list (Err s) answer is r = (λ e. ap Some (same_refusal s r (sym is ∙ e)), λ e. let same : s ≡ r = cc in is ∙ ap refused same)
+exact_in : (work : Work) (list : List ℕ) (read : Result Texts CaseFault) (answer : Answer) → IsOrRefused (IsRight work list) read answer → (r : Refusal) → (answer ≡ refused r) ↔ (refusal_in work list read ≡ Some (cases.Refused r))
+exact_in work list (Err cases.Memory) answer is r = absurd is
+exact_in work list (Err (cases.Refused s)) answer is r = exact_refusal s answer is r
 exact_in work list (Ok texts) answer is r = exact_of work list texts answer is r
 
 pub refusals_are_exact : RefusalsAreExact
@@ -166,7 +175,7 @@ refusals_are_exact reads file c answer over allowed r = exact_in c.work c.list (
 -- ---- the headline
 
 -- a fact of a case is one of the case that is read
-of_read : (P : PlainCase → Type 0) (c : PlainCase) → P c → (made : PlainCase) → ◌≡◌ {A = Result PlainCase Refusal} (Ok c) (Ok made) → P made
+of_read : (P : PlainCase → Type 0) (c : PlainCase) → P c → (made : PlainCase) → ◌≡◌ {A = Result PlainCase CaseFault} (Ok c) (Ok made) → P made
 of_read P c h made e = let same : c ≡ made = cc in subst P same h
 
 abbrev Strong : PlainCase → Type 0
@@ -175,7 +184,7 @@ Strong c = IsStrongPlan c.problem c.steps
 headline_strong : (c : PlainCase) (answer : Answer) → IsStrongVerdict (grid_of c) (box_of c) answer → IsHeadline (Ok c) answer
 headline_strong c answer v = record {
   refusals = λ r e. absurd (cc);
-  exact = of_read (λ m. SaysStrong answer ↔ Strong m) c (λ says. v.strong, λ strong. record { steps = _; uncertain = _; grid = _; answered = v.answered });
+  exact = of_read (λ m. SaysStrong answer ↔ Strong m) c (λ says. v.strong, λ strong. record { steps = _; uncertain = _; events = _; grid = _; answered = v.answered });
   done = of_read (λ m. (status_of answer ≡ statuses.Done) ↔ Strong m) c (λ e. v.strong, λ strong. ap status_of v.answered);
   strong = of_read (λ m. Strong m → IsStrongVerdict (grid_of m) (box_of m) answer) c (λ strong. v);
   weak = of_read (λ m. (Strong m → ⊥) → IsWeakVerdict (grid_of m) (box_of m) answer) c (λ weak. absurd (weak v.strong));
@@ -190,8 +199,9 @@ headline_weak c answer v = record {
   weak = of_read (λ m. (Strong m → ⊥) → IsWeakVerdict (grid_of m) (box_of m) answer) c (λ weak. v);
 }
 
-headline_on : (read : Result PlainCase Refusal) (answer : Answer) → IsOrRefused (λ c. IsVerdict (grid_of c) (box_of c)) read answer → IsHeadline read answer
-headline_on (Err r) answer is = record {
+headline_on : (read : Result PlainCase CaseFault) (answer : Answer) → IsOrRefused (λ c. IsVerdict (grid_of c) (box_of c)) read answer → IsHeadline read answer
+headline_on (Err cases.Memory) answer is = absurd is
+headline_on (Err (cases.Refused r)) answer is = record {
   refusals = λ s e. let same : r ≡ s = cc in is ∙ ap refused same;
   exact = λ made e. absurd (cc);
   done = λ made e. absurd (cc);
@@ -201,8 +211,9 @@ headline_on (Err r) answer is = record {
 headline_on (Ok c) answer (inl v) = headline_strong c answer v
 headline_on (Ok c) answer (inr v) = headline_weak c answer v
 
-verdict_in : (read : Result Texts Refusal) (answer : Answer) → IsOrRefused IsChecked read answer → IsOrRefused (λ c. IsVerdict (grid_of c) (box_of c)) (read >>= (λ texts. case_of texts.domain texts.problem texts.plan)) answer
-verdict_in (Err r) answer is = is
+verdict_in : (read : Result Texts CaseFault) (answer : Answer) → IsOrRefused IsChecked read answer → IsOrRefused (λ c. IsVerdict (grid_of c) (box_of c)) (read >>= (λ texts. case_of texts.domain texts.problem texts.plan)) answer
+verdict_in (Err cases.Memory) answer is = is
+verdict_in (Err (cases.Refused r)) answer is = is
 verdict_in (Ok texts) answer is = is
 
 checked_in : (file : Files) (c : Command) (answer : Answer) → c.work ≡ Check → IsOrRefused (IsRight c.work c.list) (texts_in file (files_of c) no_texts) answer
@@ -262,10 +273,10 @@ one_weak_text grid box one other v w =
     let f : v.fault ≡ w.fault = first_fault_is_one (run_under box w.durations.now) v.fault w.fault (subst (λ d. IsFirstFault (run_under box d) v.fault) ds v.first) w.first in
     ap text_of v.answered ∙ ap (λ d. weak_text grid d v.fault) ds ∙ ap (weak_text grid w.durations.now) f ∙ sym (ap text_of w.answered)
 
-abbrev AreAlike : Answer → Answer → Type 0
+abbrev pub AreAlike : Answer → Answer → Type 0
 AreAlike one other = (text_of one ≡ text_of other) × (status_of one ≡ status_of other)
 
-alike : (one other answer : Answer) → one ≡ answer → other ≡ answer → AreAlike one other
+pub alike : (one other answer : Answer) → one ≡ answer → other ≡ answer → AreAlike one other
 alike one other answer e f = let same : one ≡ other = e ∙ sym f in (ap text_of same, ap status_of same)
 
 one_verdict : (grid : ℕ) (box : PlainBox) (one other : Answer) → IsVerdict grid box one → IsVerdict grid box other → AreAlike one other
@@ -274,8 +285,9 @@ one_verdict grid box one other (inl v) (inr w) = absurd (w.weak v.strong)
 one_verdict grid box one other (inr v) (inl w) = absurd (v.weak w.strong)
 one_verdict grid box one other (inr v) (inr w) = (one_weak_text grid box one other v w, ap status_of v.answered ∙ sym (ap status_of w.answered))
 
-one_answer : (read : Result PlainCase Refusal) (one other : Answer) → IsOrRefused (λ c. IsVerdict (grid_of c) (box_of c)) read one → IsOrRefused (λ c. IsVerdict (grid_of c) (box_of c)) read other → AreAlike one other
-one_answer (Err r) one other v w = alike one other (refused r) v w
+pub one_answer : (read : Result PlainCase CaseFault) (one other : Answer) → IsOrRefused (λ c. IsVerdict (grid_of c) (box_of c)) read one → IsOrRefused (λ c. IsVerdict (grid_of c) (box_of c)) read other → AreAlike one other
+one_answer (Err cases.Memory) one other v w = absurd v
+one_answer (Err (cases.Refused r)) one other v w = alike one other (refused r) v w
 one_answer (Ok c) one other v w = one_verdict (grid_of c) (box_of c) one other v w
 
 pub checks_have_one_text : ChecksHaveOneText

@@ -6,3 +6,5 @@ mod Vectors
 mod Replays
 mod Headlines
 mod CommandRows
+mod NoWant
+mod OneAnswer

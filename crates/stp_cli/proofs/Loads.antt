@@ -2,6 +2,7 @@
 use Rattle.std.proofs.Common.{◌≡◌, ℕ, ◌+◌, ◌<◌, ◌≤◌, Bool, true, false, List, ◌∷◌, length, map, drop, get_or, replicate, Option, Some, None, refl, sym, ◌∙◌, arith, inl, inr}
 use Rattle.std.specs.Prelude.{IfSome, slice_index_or}
 use Rattle.std.proofs.lemmas.List.{drop_more, drop-map, length-replicate}
+use Rattle.stp_base.specs.declared.limits.TheConstants.{MAX_FILE_BYTES}
 use Rattle.stp_io.specs.Store.{HasRisen, IsTooLong}
 use Rattle.stp_io.specs.declared.loading.LoadFault.{LoadFault}
 use Rattle.stp_io.specs.declared.loading.LoadFault.TheVariants as loads
@@ -33,12 +34,12 @@ module _ (told : Option Files) (steady : List ℕ → Bool) (faults : ℕ) (role
   abbrev call : ℕ → StoreCall
   call = call_of told steady faults
 
-  pub loads_next : (bytes : List ℕ) → Holds (call faults) name bytes → length bytes ≤ 1048576
+  pub loads_next : (bytes : List ℕ) → Holds (call faults) name bytes → length bytes ≤ MAX_FILE_BYTES
       → ((after : ℕ) (texts : Texts) → AreLoaded (call after) (named_of (drop i roles) (drop i names)) before texts → AreLoaded (call after) (named_of roles names) first texts)
       → (after : ℕ) (texts : Texts) → AreLoaded (call after) (named_of (drop (i + 1) roles) (drop (i + 1) names)) (with_text role bytes before) texts → AreLoaded (call after) (named_of roles names) first texts
   loads_next bytes holds short on = λ after texts rest. on after texts (rw (next.roles_next, next.names_next) (bytes, record { holds = holds; short = short }, rest))
 
-  pub stops_next : (bytes : List ℕ) → Holds (call faults) name bytes → length bytes ≤ 1048576
+  pub stops_next : (bytes : List ℕ) → Holds (call faults) name bytes → length bytes ≤ MAX_FILE_BYTES
       → ((after : ℕ) (answer : Answer) → IsStopped (call after) (named_of (drop i roles) (drop i names)) answer → IsStopped (call after) (named_of roles names) answer)
       → (after : ℕ) (answer : Answer) → IsStopped (call after) (named_of (drop (i + 1) roles) (drop (i + 1) names)) answer → IsStopped (call after) (named_of roles names) answer
   stops_next bytes holds short on = λ after answer rest. on after answer (rw (next.roles_next, next.names_next) (inr (inr (bytes, record { holds = holds; short = short }, rest))))
@@ -49,8 +50,8 @@ longer_than : (n : ℕ) → (bytes : List ℕ) × (n < length bytes)
 longer_than n = let nought : ℕ = 0 in (replicate (n + 1) nought, rw (length-replicate (n + 1) nought) (omega arith))
 
 -- where nothing is told, some bytes are too many
-long_bytes : (told : Option Files) (name : List ℕ) → IfSome told (λ file. IsTooLong (file name)) → (bytes : List ℕ) × (IfSome told (λ file. file name ≡ Some bytes)) × (1048576 < length bytes)
-long_bytes None name h = let many = longer_than 1048576 in (many.0, tt, many.1)
+long_bytes : (told : Option Files) (name : List ℕ) → IfSome told (λ file. IsTooLong (file name)) → (bytes : List ℕ) × (IfSome told (λ file. file name ≡ Some bytes)) × (MAX_FILE_BYTES < length bytes)
+long_bytes None name h = let many = longer_than MAX_FILE_BYTES in (many.0, tt, many.1)
 long_bytes (Some file) name h = h
 
 pub stops_here : (reads : StoreCall) (role : FileName) (name : List ℕ) (rest : List Named) (fault : LoadFault) (answer : Answer)

@@ -1,32 +1,39 @@
 -- Durations that fit steps are a vector of their box on a finer grid.
-use Rattle.std.proofs.Common.{◌≡◌, ℕ, ◌+◌, ◌*◌, ◌<◌, ◌≤◌, ◌==◌, nat_le, Bool, true, false, ◌&&◌, if◌then◌else◌, List, [], ◌∷◌, ◌++◌, length, map, drop, Option, Some, None, refl, sym, ap, ◌∙◌, subst, true≢false, arith, mul-pos}
+use Rattle.std.proofs.Common.{◌≡◌, ℕ, ◌+◌, ◌*◌, ◌<◌, ◌≤◌, ◌==◌, nat_le, Bool, true, false, ◌&&◌, if◌then◌else◌, List, [], ◌∷◌, ◌++◌, length, map, flat_map, drop, Option, Some, None, refl, sym, ap, ap₂, ◌∙◌, subst, true≢false, arith, mul-pos}
 use Rattle.std.specs.Prelude.{All, slice_index}
 use Rattle.std.specs.List.{list_all}
+use Rattle.std.specs.Ordering.{is_le}
 use Rattle.std.proofs.lemmas.Bool.Decides.{nat_tests}
-use Rattle.std.proofs.lemmas.List.{append-nil}
 use Rattle.std.proofs.lemmas.List.Elements.{All-head, All-tail, All-map}
 use Rattle.std.proofs.Math.Nat.{dvd-mul_left_of_dvd}
 use Rattle.stp_frac.specs.Divisors.{divides}
-use Rattle.stp_frac.specs.Fractions.{Fraction, is_less, is_at_most, zero}
+use Rattle.stp_frac.specs.Fractions.{Fraction, is_below_zero, is_less, is_at_most, zero}
 use Rattle.stp_frac.proofs.Divisors.{divides_from, divides_to, left_true, right_true}
 use Rattle.stp_refusal.specs.declared.code.Code.{Code}
+use Rattle.stp_schema.specs.Timed.{PlainTimedFact, IsTimedFact, is_chosen}
 use Rattle.stp_schema.specs.Views.{PlainProblem}
 use Rattle.stp_tables.specs.Atoms.{Atom}
 use Rattle.stp_ground.specs.Chosen.{PlainChosen}
+use Rattle.stp_ground.specs.Ground.{event_by}
 use Rattle.stp_exec.specs.Held.{PlainHeld, Instant, Fixed, Open, is_within, is_lawful_held}
-use Rattle.stp_exec.specs.Timed.{PlainTimed, count_of, lies_on, moments_of, held_denominators, is_lawful_timed}
-use Rattle.stp_exec.specs.Fitting.{open_bounds, held_bounds, outside_from, judge_list, grid_with, unless_outside, unless_fine}
-use Rattle.stp_exec.proofs.Bounds.{Lies, HeldLies, bottom_pos, less_on, ends_ordered, first_lies, second_lies}
-use Rattle.stp_exec.proofs.LeastGrids.{finer_grids_keep_moments}
-use Rattle.stp_happen.specs.Owners.{PlainStep, step_owner, step_owners, owners_of, finer_step}
+use Rattle.stp_exec.specs.Timed.{PlainTimed as PlainTimedStep, PlainTimes, count_of, lies_on, event_lies_on, moments_of, held_denominators, is_lawful_timed}
+use Rattle.stp_exec.specs.Fitting.{open_bounds, held_bounds, step_bounds, event_bounds, outside_from, judge_list, grid_with, unless_outside, unless_fine}
+use Rattle.stp_exec.proofs.Bounds.{Lies, HeldLies, above_on, at_most_count, bottom_pos, count_order, less_on, ends_ordered, first_lies, second_lies}
+use Rattle.stp_exec.proofs.EventMoments.{low_lies, high_lies, high_above}
+use Rattle.stp_exec.proofs.LeastGrids.{finer_grids_keep_moments, finer_grids_keep_events}
+use Rattle.stp_happen.specs.Owners.{PlainStep, PlainTimed, step_owner, step_owners, timed_owners, owners_of, finer_step, finer_timed}
 use Rattle.stp_happen.proofs.OwnerLists.{owners_are_finer}
 use Rattle.stp_happen.specs.Boxes.{PlainOwner, IsVector, IsWithin, finer_owner}
-use Rattle.stp_exec.specs.Placed.{PlainPlaced, times_of}
-use Rattle.stp_exec.specs.Plans.{step_in}
+use Rattle.stp_exec.specs.Placed.{PlainPlaced, step_times, times_of}
+use Rattle.stp_exec.specs.Plans.{event_in, step_in, timed_in}
 
 -- a step in time that is lawful and lies on a grid
-abbrev pub IsOn : ℕ → PlainTimed → Type 0
+abbrev pub IsOn : ℕ → PlainTimedStep → Type 0
 IsOn g t = (lies_on g t ≡ true) × (is_lawful_timed t ≡ true)
+
+-- an event of a problem that lies on a grid
+abbrev pub IsEventOn : ℕ → PlainTimedFact → Type 0
+IsEventOn g e = IsTimedFact e × (event_lies_on g e ≡ true)
 
 split_inside : (w : Bool) (n : ℕ) (o : Option ℕ) → (if w then o else Some n) ≡ None → (w ≡ true) × (o ≡ None)
 split_inside true n o e = (refl, e)
@@ -54,6 +61,9 @@ module _ (k g : ℕ) (pk : 0 < k) (pg : 0 < g) where
       let e = (ends_ordered fine 0 (Open f h) finer_pos (and_true (is_less zero f) (is_at_most f h) pf le) (both_lie f h lf lh)).1 in
       omega (arith, e)
 
+  count_order_up : (f h : Fraction) → Lies fine f → Lies fine h → is_below_zero f.top ≡ false → is_below_zero h.top ≡ false → is_at_most f h ≡ true → count_of fine f ≤ count_of fine h
+  count_order_up f h lf lh af ah le = at_most_count (count_of fine f) (count_of fine h) (sym (ap is_le (count_order fine f h finer_pos lf lh af ah)) ∙ le)
+
   module _ (p : PlainProblem) (table : List Atom) (all : List PlainPlaced) where
     abbrev made : PlainPlaced → PlainStep
     made s = finer_step k (step_in p table g all s)
@@ -64,7 +74,7 @@ module _ (k g : ℕ) (pk : 0 < k) (pg : 0 < g) where
     -- a duration between the bounds of an open step
     within : (chosen : PlainChosen) (start low high d : Fraction) (ds : List ℕ) → IsOn g (record { start = start; held = Open low high }) → Lies fine d → is_within low high d ≡ true → (number : ℕ) → IsWithin (step_owner number (made (placed chosen start (Open low high)))) (count_of fine d ∷ ds)
     within chosen start low high d ds (lies, lawful) ld inside number = λ chosen_open.
-        let t : PlainTimed = record { start = start; held = Open low high } in
+        let t : PlainTimedStep = record { start = start; held = Open low high } in
         let m = finer_grids_keep_moments t k g pg lies in
         let e0 : count_of fine start ≡ k * count_of g start = ap (λ x. x.start) m in
         let e1 : count_of fine start + count_of fine low ≡ k * (count_of g start + count_of g low) = ap (λ x. x.low) m in
@@ -81,42 +91,97 @@ module _ (k g : ℕ) (pk : 0 < k) (pg : 0 < g) where
         let c2 : count_of fine d ≤ count_of fine high = count_up d high ld lh pd down in
         (omega arith, omega (arith, e0, e1, c1), omega (arith, e0, e2, c2))
 
-    abbrev Claim : List PlainPlaced → Type 0
-    Claim steps = (number n : ℕ) (ds : List Fraction) → All (IsOn g) (times_of steps) → All (Lies fine) ds → length ds ≡ length (open_bounds (times_of steps)) → outside_from n (open_bounds (times_of steps)) ds ≡ None → IsVector (step_owners number (map made steps)) (map (count_of fine) ds)
+    -- ---- steps, before owners that others fit
 
-    one_more : (chosen : PlainChosen) (start : Fraction) (held : PlainHeld) (steps : List PlainPlaced) → Claim steps → Claim (placed chosen start held ∷ steps)
-    one_more chosen start Instant steps rest number n ds on lie even inside =
-        ((λ chosen_open. absurd (true≢false (sym chosen_open))), rest (number + 1) n ds (All-tail (IsOn g) _ (times_of steps) on) lie even inside)
-    one_more chosen start (Fixed duration) steps rest number n ds on lie even inside =
-        ((λ chosen_open. absurd (true≢false (sym chosen_open))), rest (number + 1) n ds (All-tail (IsOn g) _ (times_of steps) on) lie even inside)
-    one_more chosen start (Open low high) steps rest number n [] on lie even inside = absurd (omega (arith, even))
-    one_more chosen start (Open low high) steps rest number n (d ∷ ds) on lie even inside =
-        let split = split_inside (is_within low high d) n (outside_from (n + 1) (open_bounds (times_of steps)) ds) inside in (
-          within chosen start low high d (map (count_of fine) ds) (All-head (IsOn g) (record { start = start; held = Open low high }) (times_of steps) on) (All-head (Lies fine) d ds lie) split.0 number,
-          rest (number + 1) (n + 1) ds (All-tail (IsOn g) (record { start = start; held = Open low high }) (times_of steps) on) (All-tail (Lies fine) d ds lie) (omega (arith, even)) split.1,
-        )
+    module _ (others : List PlainOwner) (more : List (Fraction × Fraction)) (fit_others : (n : ℕ) (ds : List Fraction) → All (Lies fine) ds → length ds ≡ length more → outside_from n more ds ≡ None → IsVector others (map (count_of fine) ds)) where
+      abbrev bounds : List PlainPlaced → List (Fraction × Fraction)
+      bounds steps = flat_map step_bounds (step_times steps) ++ more
 
-    no_more : Claim []
-    no_more number n [] on lie even inside = refl
-    no_more number n (d ∷ ds) on lie even inside = absurd (omega (arith, even))
+      abbrev Claim : List PlainPlaced → Type 0
+      Claim steps = (number n : ℕ) (ds : List Fraction) → All (IsOn g) (step_times steps) → All (Lies fine) ds → length ds ≡ length (bounds steps) → outside_from n (bounds steps) ds ≡ None → IsVector (step_owners number (map made steps) ++ others) (map (count_of fine) ds)
 
-    fitting_from : (steps : List PlainPlaced) → Claim steps
-    fitting_from [] = no_more
-    fitting_from (s ∷ steps) = one_more s.chosen s.timed.start s.timed.held steps (fitting_from steps)
+      one_more : (chosen : PlainChosen) (start : Fraction) (held : PlainHeld) (steps : List PlainPlaced) → Claim steps → Claim (placed chosen start held ∷ steps)
+      one_more chosen start Instant steps rest number n ds on lie even inside =
+          ((λ chosen_open. absurd (true≢false (sym chosen_open))), rest (number + 1) n ds (All-tail (IsOn g) _ (step_times steps) on) lie even inside)
+      one_more chosen start (Fixed duration) steps rest number n ds on lie even inside =
+          ((λ chosen_open. absurd (true≢false (sym chosen_open))), rest (number + 1) n ds (All-tail (IsOn g) _ (step_times steps) on) lie even inside)
+      one_more chosen start (Open low high) steps rest number n [] on lie even inside = absurd (omega (arith, even))
+      one_more chosen start (Open low high) steps rest number n (d ∷ ds) on lie even inside =
+          let split = split_inside (is_within low high d) n (outside_from (n + 1) (bounds steps) ds) inside in (
+            within chosen start low high d (map (count_of fine) ds) (All-head (IsOn g) (record { start = start; held = Open low high }) (step_times steps) on) (All-head (Lies fine) d ds lie) split.0 number,
+            rest (number + 1) (n + 1) ds (All-tail (IsOn g) (record { start = start; held = Open low high }) (step_times steps) on) (All-tail (Lies fine) d ds lie) (omega (arith, even)) split.1,
+          )
+
+      fitting_steps : (steps : List PlainPlaced) → Claim steps
+      fitting_steps [] = λ number n ds on lie even inside. fit_others n ds lie even inside
+      fitting_steps (s ∷ steps) = one_more s.chosen s.timed.start s.timed.held steps (fitting_steps steps)
 
     finer_steps : (steps : List PlainPlaced) → map made steps ≡ map (finer_step k) (map (step_in p table g all) steps)
     finer_steps [] = refl
     finer_steps (s ∷ steps) = ap (λ ss. made s ∷ ss) (finer_steps steps)
 
-    -- the owners of finer steps, of a box without events of the environment, are the finer owners
-    finer_owners : step_owners 1 (map made all) ≡ map (finer_owner k) (owners_of (map (step_in p table g all) all) [])
-    finer_owners =
-        ap (step_owners 1) (finer_steps all)
-        ∙ sym (append-nil (step_owners 1 (map (finer_step k) (map (step_in p table g all) all))))
-        ∙ owners_are_finer k (map (step_in p table g all) all) []
+    -- ---- events of the environment
 
-    pub fitting : (ds : List Fraction) → All (IsOn g) (times_of all) → All (Lies fine) ds → length ds ≡ length (open_bounds (times_of all)) → outside_from 1 (open_bounds (times_of all)) ds ≡ None → IsVector (map (finer_owner k) (owners_of (map (step_in p table g all) all) [])) (map (count_of fine) ds)
-    fitting ds on lie even inside = subst (λ (os : List PlainOwner). IsVector os (map (count_of fine) ds)) finer_owners (fitting_from all 1 1 ds on lie even inside)
+    abbrev event_made : Bool → PlainTimedFact → PlainTimed
+    event_made chosen e = finer_timed k (record { low = count_of g e.low; high = count_of g e.high; uncertain = chosen; event = event_in (event_by table e) })
+
+    -- a moment between the bounds of an event
+    moment_within : (e : PlainTimedFact) (d : Fraction) → IsEventOn g e → Lies fine d → is_within e.low e.high d ≡ true → (k * count_of g e.low ≤ count_of fine d) × (count_of fine d ≤ k * count_of g e.high)
+    moment_within e d (kept, lies) ld inside =
+        let finer = finer_grids_keep_events e k g pg lies in
+        let ll : Lies fine e.low = lies_finer e.low (low_lies g pg e kept lies) in
+        let lh : Lies fine e.high = lies_finer e.high (high_lies g pg e kept lies) in
+        let up : is_at_most e.low d ≡ true = left_true (is_at_most e.low d) (is_at_most d e.high) inside in
+        let down : is_at_most d e.high ≡ true = right_true (is_at_most e.low d) (is_at_most d e.high) inside in
+        let above : is_below_zero d.top ≡ false = above_on e.low d (bottom_pos fine e.low finer_pos ll) kept.early up in
+        let c1 : count_of fine e.low ≤ count_of fine d = count_order_up e.low d ll ld kept.early above up in
+        let c2 : count_of fine d ≤ count_of fine e.high = count_order_up d e.high ld lh above (high_above g pg e kept lies) down in
+        (omega (arith, finer.0, c1), omega (arith, finer.1, c2))
+
+    abbrev EventClaim : List PlainTimedFact → Type 0
+    EventClaim es = (number n : ℕ) (ds : List Fraction) → All (Lies fine) ds → length ds ≡ length (flat_map event_bounds es) → outside_from n (flat_map event_bounds es) ds ≡ None → IsVector (timed_owners number (map (λ e. event_made (is_chosen e) e) es)) (map (count_of fine) ds)
+
+    one_event : (e : PlainTimedFact) (es : List PlainTimedFact) → IsEventOn g e → EventClaim es → (chosen : Bool) (number n : ℕ) (ds : List Fraction) → All (Lies fine) ds
+        → length ds ≡ length ((if chosen then (e.low, e.high) ∷ [] else []) ++ flat_map event_bounds es) → outside_from n ((if chosen then (e.low, e.high) ∷ [] else []) ++ flat_map event_bounds es) ds ≡ None
+        → IsVector (timed_owners number (event_made chosen e ∷ map (λ e. event_made (is_chosen e) e) es)) (map (count_of fine) ds)
+    one_event e es on rest false number n ds lie even inside = ((λ chosen. absurd (true≢false (sym chosen))), rest number n ds lie even inside)
+    one_event e es on rest true number n [] lie even inside = absurd (omega (arith, even))
+    one_event e es on rest true number n (d ∷ ds) lie even inside =
+        let split = split_inside (is_within e.low e.high d) n (outside_from (n + 1) (flat_map event_bounds es) ds) inside in
+        let moment = moment_within e d on (All-head (Lies fine) d ds lie) split.0 in
+        let low : k * count_of g e.low ≤ 0 + count_of fine d = omega (arith, moment.0) in
+        let high : 0 + count_of fine d ≤ k * count_of g e.high = omega (arith, moment.1) in (
+          (λ chosen. (omega arith, low, high)),
+          rest (number + 1) (n + 1) ds (All-tail (Lies fine) d ds lie) (omega (arith, even)) split.1,
+        )
+
+    none_left : (ds : List Fraction) → length ds ≡ 0 → map (count_of fine) ds ≡ []
+    none_left [] e = refl
+    none_left (d ∷ ds) e = absurd (omega (arith, e))
+
+    fitting_events : (es : List PlainTimedFact) → All (IsEventOn g) es → EventClaim es
+    fitting_events [] on = λ number n ds lie even inside. none_left ds even
+    fitting_events (e ∷ es) on = one_event e es (All-head (IsEventOn g) e es on) (fitting_events es (All-tail (IsEventOn g) e es on)) (is_chosen e)
+
+    finer_events : (es : List PlainTimedFact) → map (λ e. event_made (is_chosen e) e) es ≡ map (finer_timed k) (map (timed_in table g) es)
+    finer_events [] = refl
+    finer_events (e ∷ es) = ap (λ xs. event_made (is_chosen e) e ∷ xs) (finer_events es)
+
+    -- ---- all owners
+
+    abbrev events_made : List PlainTimed
+    events_made = map (λ e. event_made (is_chosen e) e) p.timed
+
+    finer_owners : owners_of (map made all) events_made ≡ map (finer_owner k) (owners_of (map (step_in p table g all) all) (map (timed_in table g) p.timed))
+    finer_owners =
+        ap₂ owners_of (finer_steps all) (finer_events p.timed)
+        ∙ owners_are_finer k (map (step_in p table g all) all) (map (timed_in table g) p.timed)
+
+    pub fitting : (ds : List Fraction) → All (IsOn g) (step_times all) → All (IsEventOn g) p.timed → All (Lies fine) ds → length ds ≡ length (open_bounds (times_of p all)) → outside_from 1 (open_bounds (times_of p all)) ds ≡ None → IsVector (map (finer_owner k) (owners_of (map (step_in p table g all) all) (map (timed_in table g) p.timed))) (map (count_of fine) ds)
+    fitting ds on events lie even inside =
+        let after : ℕ = length (map made all) + 1 in
+        subst (λ (os : List PlainOwner). IsVector os (map (count_of fine) ds)) finer_owners
+        (fitting_steps (timed_owners after events_made) (flat_map event_bounds p.timed) (fitting_events p.timed events after) all 1 1 ds on lie even inside)
 
 -- what it means that a list is judged to fit
 split_judged : (b : Bool) (o : Option ℕ) (fine : Option (Code × ℕ)) (other : Code × ℕ) → (if b then unless_outside o fine else Some other) ≡ None → (b ≡ true) × (o ≡ None)
@@ -124,7 +189,7 @@ split_judged true None fine other e = (refl, refl)
 split_judged true (Some n) fine other e = absurd (cc)
 split_judged false o fine other e = absurd (cc)
 
-pub judged_well : (steps : List PlainTimed) (ds : List Fraction) → judge_list steps ds ≡ None → (length ds ≡ length (open_bounds steps)) × (outside_from 1 (open_bounds steps) ds ≡ None)
-judged_well steps ds e =
-    let split = split_judged (length ds == length (open_bounds steps)) (outside_from 1 (open_bounds steps) ds) (unless_fine (grid_with steps ds)) _ e in
+pub judged_well : (times : PlainTimes) (ds : List Fraction) → judge_list times ds ≡ None → (length ds ≡ length (open_bounds times)) × (outside_from 1 (open_bounds times) ds ≡ None)
+judged_well times ds e =
+    let split = split_judged (length ds == length (open_bounds times)) (outside_from 1 (open_bounds times) ds) (unless_fine (grid_with times ds)) _ e in
     (grind (arith, nat_tests, split.0), split.1)

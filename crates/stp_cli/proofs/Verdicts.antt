@@ -1,6 +1,7 @@
 -- Verdicts on boxes, and the times that they print.
-use Rattle.std.proofs.Common.{◌≡◌, ℕ, ◌+◌, ◌*◌, ◌≤◌, ◌<◌, Bool, true, false, if◌then◌else◌, List, [], ◌∷◌, ◌++◌, length, map, drop, All, Some, None, refl, sym, ap, subst, ◌∙◌, arith, true≢false}
+use Rattle.std.proofs.Common.{◌≡◌, ℕ, ◌+◌, ◌*◌, ◌≤◌, ◌<◌, Bool, true, false, if◌then◌else◌, List, [], ◌∷◌, ◌++◌, length, map, drop, All, Some, None, not, filter, refl, sym, ap, subst, ◌∙◌, arith, true≢false}
 use Rattle.std.specs.Prelude.{slice_index, cond, count_by}
+use Rattle.std.proofs.lemmas.List.{length-map}
 use Rattle.std.proofs.lemmas.List.Sums.{sum_by-append}
 use Rattle.std.proofs.Math.Logic.{∥∥₁_elim}
 use Rattle.std.proofs.Props.{props}
@@ -14,7 +15,7 @@ use Rattle.stp_happen.specs.Owners.{PlainTimed, step_owner, step_owners, timed_o
 use Rattle.stp_happen.specs.StepViews.{step_of, steps_of, plain_timed, timed_of}
 use Rattle.stp_happen.specs.BoxViews.{plain_box}
 use Rattle.stp_report.specs.Bounds.{IsGrid, IsTime, IsFaultTime, AreWeakTimes}
-use Rattle.stp_cli.specs.Verdict.{is_step, is_uncertain_step, step_count, uncertain_count}
+use Rattle.stp_cli.specs.Verdict.{is_step, is_uncertain_step, is_chosen_event, step_count, uncertain_count, event_count}
 
 abbrev EndsInTime : ℕ → PlainOwner → Type 0
 EndsInTime grid o = o.high ≤ 999999999 * grid
@@ -54,8 +55,11 @@ module _ (grid : ℕ) where
 steps_in_time : (boxed : BoxRun) → All (λ (s : BoxStep). s.high ≤ 999999999 * boxed.grid) boxed.steps
 steps_in_time boxed = ∥∥₁_elim boxed.sound (Prim.hlevel props) (λ b k d h. (b.steps_in_range k d h).high)
 
+early_in_time : (high grid : ℕ) → high ≤ 100000000 * grid → high ≤ 999999999 * grid
+early_in_time high grid h = omega (arith, h)
+
 events_in_time : (boxed : BoxRun) → All (λ (e : BoxTimed). e.high ≤ 999999999 * boxed.grid) boxed.timed
-events_in_time boxed = ∥∥₁_elim boxed.sound (Prim.hlevel props) (λ b k d h. (b.timed_in_range k d h).high)
+events_in_time boxed = ∥∥₁_elim boxed.sound (Prim.hlevel props) (λ b k d h. early_in_time _ boxed.grid (b.timed_in_range k d h).high)
 
 owners_in_time : (boxed : BoxRun) → All (EndsInTime boxed.grid) (plain_box boxed).owners
 owners_in_time boxed =
@@ -104,6 +108,22 @@ counted p steps others n e f =
     let both : count_by p (steps ++ others) ≡ count_by p steps + count_by p others = sum_by-append (λ o. cond (p o) 1 0) steps others in
     omega (arith, both, e, f)
 
+-- the events whose moments are chosen, among owners
+chosen_counted : (number : ℕ) (timed : List BoxTimed) → count_by is_chosen_event (timed_owners number (timed_of timed)) ≡ count_by (λ (e : BoxTimed). e.uncertain) timed
+chosen_counted number [] = refl
+chosen_counted number (e ∷ es) =
+    let after = number_after number (plain_timed e) in
+    let owners = timed_owners after (timed_of es) in
+    let one = 0 + cond e.uncertain 1 0 in
+    let sum : count_by is_chosen_event (timed_owners number (timed_of (e ∷ es))) ≡ one + count_by is_chosen_event owners = sum_by-append (λ o. cond (is_chosen_event o) 1 0) (timed_owner number (plain_timed e) ∷ []) owners in
+    let events : count_by (λ (x : BoxTimed). x.uncertain) (e ∷ es) ≡ one + count_by (λ (x : BoxTimed). x.uncertain) es = sum_by-append (λ (x : BoxTimed). cond x.uncertain 1 0) (e ∷ []) es in
+    sum ∙ ap (λ n. one + n) (chosen_counted after es) ∙ sym events
+
+-- steps are no events of the environment
+no_events : (number : ℕ) (steps : List BoxStep) → count_by is_chosen_event (step_owners number (steps_of steps)) ≡ 0
+no_events number [] = refl
+no_events number (s ∷ ss) = no_events (number + 1) ss
+
 pub box_steps : (boxed : BoxRun) → length boxed.steps ≡ step_count (plain_box boxed)
 box_steps boxed =
     let after = length (steps_of boxed.steps) + 1 in
@@ -114,3 +134,31 @@ box_uncertain boxed =
     let after = length (steps_of boxed.steps) + 1 in
     let many = count_by (λ (s : BoxStep). s.uncertain) boxed.steps in
     sym (counted is_uncertain_step (step_owners 1 (steps_of boxed.steps)) (timed_owners after (timed_of boxed.timed)) many (uncertain_counted 1 boxed.steps) (none_uncertain after (timed_of boxed.timed)))
+
+pub box_events : (boxed : BoxRun) → count_by (λ (e : BoxTimed). e.uncertain) boxed.timed ≡ event_count (plain_box boxed)
+box_events boxed =
+    let after = length (steps_of boxed.steps) + 1 in
+    let steps = step_owners 1 (steps_of boxed.steps) in
+    let events = timed_owners after (timed_of boxed.timed) in
+    let both : count_by is_chosen_event (steps ++ events) ≡ count_by is_chosen_event steps + count_by is_chosen_event events = sum_by-append (λ o. cond (is_chosen_event o) 1 0) steps events in
+    let none : count_by is_chosen_event steps ≡ 0 = no_events 1 boxed.steps in
+    let some : count_by is_chosen_event events ≡ count_by (λ (e : BoxTimed). e.uncertain) boxed.timed = chosen_counted after boxed.timed in
+    omega (arith, both, none, some)
+
+-- ---- how many events there may be
+
+one_of_both : {A : Type 0} (b : Bool) (x : A) (ys zs : List A) (n : ℕ) → n ≡ length ys + length zs → n + 1 ≡ length (if not b then x ∷ ys else ys) + length (if b then x ∷ zs else zs)
+one_of_both true x ys zs n e = omega (arith, e)
+one_of_both false x ys zs n e = omega (arith, e)
+
+of_both : {A : Type 0} (p : A → Bool) (xs : List A) → length xs ≡ length (filter (λ x. not (p x)) xs) + length (filter p xs)
+of_both p [] = refl
+of_both p (x ∷ xs) = let one = one_of_both (p x) x (filter (λ x. not (p x)) xs) (filter p xs) (length xs) (of_both p xs) in omega (arith, one)
+
+pub few_events : (boxed : BoxRun) → length boxed.timed ≤ 130
+few_events boxed =
+    let both : length (timed_of boxed.timed) ≡ length (filter (λ e. not e.uncertain) (timed_of boxed.timed)) + length (filter (λ e. e.uncertain) (timed_of boxed.timed)) = of_both (λ e. e.uncertain) (timed_of boxed.timed) in
+    let same : length (timed_of boxed.timed) ≡ length boxed.timed = length-map boxed.timed plain_timed in
+    let fixed : length (filter (λ e. not e.uncertain) (timed_of boxed.timed)) ≤ 100 = ∥∥₁_elim boxed.sound (Prim.hlevel props) (λ b. b.few_fixed) in
+    let chosen : length (filter (λ e. e.uncertain) (timed_of boxed.timed)) ≤ 30 = ∥∥₁_elim boxed.sound (Prim.hlevel props) (λ b. b.few_chosen) in
+    omega (arith, both, same, fixed, chosen)

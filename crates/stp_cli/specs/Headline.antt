@@ -1,12 +1,16 @@
 -- What the answers to commands come to, where the store tells its files and their names are steady.
-use Rattle.std.specs.Prelude.{◌≡◌, ◌≢◌, ℕ, ◌↔◌, true, ◌⊎◌, nat_lt, if◌then◌else◌, List, [], ◌∷◌, length, All, Option, Some, unwrap_or, Result, Ok, Err}
+use Rattle.std.specs.Prelude.{◌≡◌, ◌≢◌, ℕ, ◌↔◌, true, ◌⊎◌, nat_lt, if◌then◌else◌, List, [], ◌∷◌, length, All, Option, Some, unwrap_or, Result, Ok, Err, IfErr}
 use Rattle.std.specs.Result.{result_err}
+use Rattle.stp_base.specs.declared.limits.TheConstants.{MAX_FILE_BYTES}
 use Rattle.stp_io.specs.Store.{HasRisen}
 use Rattle.stp_refusal.specs.declared.code.Code.TheVariants.{F01}
 use Rattle.stp_exec.specs.Plans.{IsStrongPlan}
+use Rattle.stp_exec.specs.Timed.{PlainTimes}
 use Rattle.stp_report.specs.declared.answer.Answer.{Answer}
 use Rattle.stp_report.specs.declared.answer.Answer.TheVariants as answers
 use Rattle.stp_report.specs.Texts.{text_of}
+use Rattle.stp_cli.specs.declared.refusal.CaseFault.{CaseFault}
+use Rattle.stp_cli.specs.declared.refusal.CaseFault.TheVariants.{Refused, Memory}
 use Rattle.stp_cli.specs.declared.refusal.Refusal.{Refusal}
 use Rattle.stp_cli.specs.declared.status.Status.{Status}
 use Rattle.stp_cli.specs.declared.status.Status.TheVariants as statuses
@@ -17,7 +21,7 @@ use Rattle.stp_cli.specs.Calls.{Files, StoreCall, SinkCall}
 use Rattle.stp_cli.specs.Words.{Named, Command, command_of, files_of}
 use Rattle.stp_cli.specs.Texts.{no_texts, with_text}
 use Rattle.stp_base.specs.Results.{◌>>=◌}
-use Rattle.stp_cli.specs.Refusals.{refusal, refused}
+use Rattle.stp_cli.specs.Refusals.{refused_at, refused}
 use Rattle.stp_cli.specs.Case.{PlainCase, case_of, times_of, grid_of, box_of}
 use Rattle.stp_cli.specs.Loading.{IsStopped, AreLoaded}
 use Rattle.stp_cli.specs.Verdict.{IsStrongVerdict, IsWeakVerdict}
@@ -30,16 +34,16 @@ use Rattle.stp_cli.specs.Outcome.{IsAllowedTo, IsWritten}
 
 -- The texts of files that are told, put to those before, or the refusal of the first that is too long. (A file
 -- that is not there has no steady name, and so no answer is ever given on it.)
-abbrev pub texts_in : Files → List Named → Texts → Result Texts Refusal
+abbrev pub texts_in : Files → List Named → Texts → Result Texts CaseFault
 texts_in file [] texts = Ok texts
 texts_in file (f ∷ fs) texts =
     let bytes = unwrap_or (file f.name) [] in
-    if nat_lt 1048576 (length bytes)
-    then Err (refusal f.role F01 1048576)
+    if nat_lt MAX_FILE_BYTES (length bytes)
+    then Err (refused_at f.role F01 MAX_FILE_BYTES)
     else texts_in file fs (with_text f.role bytes texts)
 
 -- the case that the files of a command make, or their first refusal
-abbrev pub case_in : Files → Command → Result PlainCase Refusal
+abbrev pub case_in : Files → Command → Result PlainCase CaseFault
 case_in file c = do
   texts ← texts_in file (files_of c) no_texts
   case_of texts.domain texts.problem texts.plan
@@ -49,17 +53,17 @@ abbrev pub IsAccepted : Files → Command → PlainCase → Type 0
 IsAccepted file c made = case_in file c ≡ Ok made
 
 -- what a work refuses of the texts of its files: a line for each work
-abbrev pub refusal_on : Work → List ℕ → Texts → Option Refusal
+abbrev pub refusal_on : Work → List ℕ → Texts → Option CaseFault
 refusal_on Check list texts = result_err (case_of texts.domain texts.problem texts.plan)
 refusal_on Replay list texts =
     result_err (case_of texts.domain texts.problem texts.plan >>= (λ c. durations_of (times_of c) list))
 
-abbrev pub refusal_in : Work → List ℕ → Result Texts Refusal → Option Refusal
-refusal_in work list (Err r) = Some r
+abbrev pub refusal_in : Work → List ℕ → Result Texts CaseFault → Option CaseFault
+refusal_in work list (Err fault) = Some fault
 refusal_in work list (Ok texts) = refusal_on work list texts
 
 -- the first refusal of a command, if it has one
-abbrev pub first_refusal : Files → Command → Option Refusal
+abbrev pub first_refusal : Files → Command → Option CaseFault
 first_refusal file c = refusal_in c.work c.list (texts_in file (files_of c) no_texts)
 
 -- ---- the headline
@@ -68,13 +72,16 @@ first_refusal file c = refusal_in c.work c.list (texts_in file (files_of c) no_t
 pub record SaysStrong (answer : Answer) : Type 0 where
   pub steps : ℕ
   pub uncertain : ℕ
+  pub events : ℕ
   pub grid : ℕ
-  pub answered : answer ≡ answers.Strong steps uncertain grid
+  pub answered : answer ≡ answers.Strong steps uncertain events grid
 
--- What is answered to `check` on a case, or on the refusal that stands in its place: strong exactly where the plan
--- is strong, and otherwise its least failure on the base grid with the first fault of that run.
-pub record IsHeadline (read : Result PlainCase Refusal) (answer : Answer) : Type 0 where
-  pub refusals : (r : Refusal) → read ≡ Err r → answer ≡ refused r
+-- What is answered to `check` on a case, or on the refusal that stands in its place: strong exactly where, on the base
+-- grid and on every finer one and for every choice of the uncontrollable durations and of the moments of events within
+-- their bounds, the plan executes and reaches the goal; and otherwise its least failure on the base grid with the first
+-- fault of that run.
+pub record IsHeadline (read : Result PlainCase CaseFault) (answer : Answer) : Type 0 where
+  pub refusals : (r : Refusal) → read ≡ Err (Refused r) → answer ≡ refused r
   pub exact : (made : PlainCase) → read ≡ Ok made → SaysStrong answer ↔ IsStrongPlan made.problem made.steps
   pub done : (made : PlainCase) → read ≡ Ok made
       → (status_of answer ≡ statuses.Done) ↔ IsStrongPlan made.problem made.steps
@@ -150,7 +157,22 @@ abbrev pub RefusalsAreExact : Type 0
 RefusalsAreExact =
     (reads : StoreCall) (file : Files) (c : Command) (answer : Answer)
     → IsOverFiles reads file c → IsAllowedTo reads c answer
-    → (r : Refusal) → (answer ≡ refused r) ↔ (first_refusal file c ≡ Some r)
+    → (r : Refusal) → (answer ≡ refused r) ↔ (first_refusal file c ≡ Some (Refused r))
+
+-- two answers that are right on one command's texts are printed alike, and end alike
+abbrev pub RightAnswersHaveOneText : Type 0
+RightAnswersHaveOneText =
+    (work : Work) (list : List ℕ) (texts : Texts) (one other : Answer)
+    → IsRight work list texts one → IsRight work list texts other
+    → (text_of one ≡ text_of other) × (status_of one ≡ status_of other)
+
+-- texts are refused or make a case: their definition never answers want of memory
+abbrev pub NoCaseIsWantOfMemory : Type 0
+NoCaseIsWantOfMemory = (domain problem plan : List ℕ) → IfErr (case_of domain problem plan) (λ fault. fault ≢ Memory)
+
+-- nor does that of a list of durations and moments
+abbrev pub NoListIsWantOfMemory : Type 0
+NoListIsWantOfMemory = (times : PlainTimes) (list : List ℕ) → IfErr (durations_of times list) (λ fault. fault ≢ Memory)
 
 -- an answer that is right on texts is no fault of the outside
 abbrev pub RightAnswersAreNoFaults : Type 0

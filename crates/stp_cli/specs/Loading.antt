@@ -1,5 +1,6 @@
 -- The files of a command, loaded one after another.
 use Rattle.std.specs.Prelude.{◌≡◌, ℕ, ◌<◌, ◌≤◌, false, ◌⊎◌, List, [], ◌∷◌, length, Some, IfSome}
+use Rattle.stp_base.specs.declared.limits.TheConstants.{MAX_FILE_BYTES}
 use Rattle.stp_io.specs.Store.{HasRisen}
 use Rattle.stp_io.specs.declared.loading.LoadFault.{LoadFault}
 use Rattle.stp_io.specs.declared.loading.LoadFault.TheVariants as loads
@@ -19,7 +20,7 @@ Holds reads name bytes = IfSome reads.told (λ file. file name ≡ Some bytes)
 -- a file that has these bytes, which are not too many
 pub record IsFine (reads : StoreCall) (name : List ℕ) (bytes : List ℕ) : Type 0 where
   pub holds : Holds reads name bytes
-  pub short : length bytes ≤ 1048576
+  pub short : length bytes ≤ MAX_FILE_BYTES
 
 -- a read of the file failed: the store counted it, and the name was not steady
 pub record IsUnread (reads : StoreCall) (f : Named) (answer : Answer) : Type 0 where
@@ -31,8 +32,8 @@ pub record IsUnread (reads : StoreCall) (f : Named) (answer : Answer) : Type 0 w
 pub record IsTooLong (reads : StoreCall) (f : Named) (answer : Answer) : Type 0 where
   pub bytes : List ℕ
   pub holds : Holds reads f.name bytes
-  pub long : 1048576 < length bytes
-  pub answered : answer ≡ answers.Refused f.role F01 1048576
+  pub long : MAX_FILE_BYTES < length bytes
+  pub answered : answer ≡ answers.Refused f.role F01 MAX_FILE_BYTES
 
 -- one of these files is not loaded and gives this answer, and those before it are fine
 abbrev pub IsStopped : StoreCall → List Named → Answer → Type 0
@@ -51,5 +52,5 @@ AreLoaded reads (f ∷ fs) before texts =
 -- what is answered where a file was not loaded
 abbrev pub IsUnloaded : FileName → LoadFault → Answer → Type 0
 IsUnloaded role loads.ReadFault answer = answer ≡ answers.ReadFault role
-IsUnloaded role loads.TooLong answer = answer ≡ answers.Refused role F01 1048576
+IsUnloaded role loads.TooLong answer = answer ≡ answers.Refused role F01 MAX_FILE_BYTES
 IsUnloaded role loads.Memory answer = ⊥

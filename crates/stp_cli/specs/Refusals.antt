@@ -1,4 +1,4 @@
--- Refusals of files, and what is read where nothing is refused.
+-- Refusals of files, why there is no case, and what is read where there is one.
 use Rattle.std.specs.Prelude.{◌≡◌, ℕ, Result, Ok, Err}
 use Rattle.stp_text.specs.declared.fault.TextFault.{TextFault}
 use Rattle.stp_text.specs.declared.fault.TextFault.TheVariants as texts
@@ -14,47 +14,53 @@ use Rattle.stp_report.specs.declared.answer.Answer.{Answer}
 use Rattle.stp_report.specs.declared.answer.Answer.TheVariants as answers
 use Rattle.stp_report.specs.declared.answer.FileName.{FileName}
 use Rattle.stp_report.specs.declared.answer.FileName.TheVariants as files
+use Rattle.stp_cli.specs.declared.refusal.CaseFault.{CaseFault}
+use Rattle.stp_cli.specs.declared.refusal.CaseFault.TheVariants.{Refused, Memory}
 use Rattle.stp_cli.specs.declared.refusal.Refusal.{Refusal}
 
 abbrev pub refusal : FileName → Code → ℕ → Refusal
 refusal file code at = record { file = file; code = code; at = at }
 
--- ---- what the faults of readers refuse (want of memory is no fault of a file, and none of what readers say of one)
+abbrev pub refused_at : FileName → Code → ℕ → CaseFault
+refused_at file code at = Refused (refusal file code at)
 
-abbrev pub text_refusal : FileName → TextFault → Refusal
-text_refusal file (texts.BadByte at) = refusal file codes.T01 at
-text_refusal file (texts.StrayClose at) = refusal file codes.T02 at
-text_refusal file (texts.TooDeep at) = refusal file codes.T03 at
-text_refusal file (texts.Unclosed at) = refusal file codes.T04 at
-text_refusal file (texts.WordTooLong at) = refusal file codes.T05 at
-text_refusal file (texts.NotOneList at) = refusal file codes.T06 at
-text_refusal file texts.Memory = refusal file codes.N00 0
+-- ---- what the faults of readers are to a command
 
-abbrev pub read_refusal : FileName → ReadFault → Refusal
-read_refusal file (reads.Refused code at) = refusal file code at
-read_refusal file reads.Memory = refusal file codes.N00 0
+abbrev pub text_fault : FileName → TextFault → CaseFault
+text_fault file (texts.BadByte at) = refused_at file codes.T01 at
+text_fault file (texts.StrayClose at) = refused_at file codes.T02 at
+text_fault file (texts.TooDeep at) = refused_at file codes.T03 at
+text_fault file (texts.Unclosed at) = refused_at file codes.T04 at
+text_fault file (texts.WordTooLong at) = refused_at file codes.T05 at
+text_fault file (texts.NotOneList at) = refused_at file codes.T06 at
+text_fault file texts.Memory = Memory
 
-abbrev pub plan_refusal : PlanFault → Refusal
-plan_refusal (plans.BadLine line) = refusal files.Plan codes.L01 line
-plan_refusal (plans.TooManySteps line) = refusal files.Plan codes.L02 line
-plan_refusal plans.Memory = refusal files.Plan codes.N00 0
+abbrev pub read_fault : FileName → ReadFault → CaseFault
+read_fault file (reads.Refused code at) = refused_at file code at
+read_fault file reads.Memory = Memory
 
-abbrev pub exec_refusal : ExecFault → Refusal
-exec_refusal (execs.Step step code) = refusal files.Plan code step.0
-exec_refusal execs.GridTooFine = refusal files.Plan codes.X10 0
-exec_refusal (execs.TimeTooLarge step) = refusal files.Plan codes.X11 step.0
-exec_refusal execs.Memory = refusal files.Plan codes.N00 0
+abbrev pub plan_fault : PlanFault → CaseFault
+plan_fault (plans.BadLine line) = refused_at files.Plan codes.L01 line
+plan_fault (plans.TooManySteps line) = refused_at files.Plan codes.L02 line
+plan_fault plans.Memory = Memory
 
--- what is read, or the refusal of the fault
-abbrev pub or_refusal : {A F : Type 0} → (F → Refusal) → Result A F → Result A Refusal
-or_refusal refuse (Ok value) = Ok value
-or_refusal refuse (Err fault) = Err (refuse fault)
+abbrev pub exec_fault : ExecFault → CaseFault
+exec_fault (execs.Step step code) = refused_at files.Plan code step.0
+exec_fault execs.GridTooFine = refused_at files.Plan codes.X10 0
+exec_fault (execs.TimeTooLarge step) = refused_at files.Plan codes.X11 step.0
+exec_fault execs.Memory = Memory
+
+-- what is read, or what the fault is to a command
+abbrev pub or_fault : {A F : Type 0} → (F → CaseFault) → Result A F → Result A CaseFault
+or_fault fault_of (Ok value) = Ok value
+or_fault fault_of (Err fault) = Err (fault_of fault)
 
 -- the answer to a refusal
 abbrev pub refused : Refusal → Answer
 refused r = answers.Refused r.file r.code r.at
 
--- the refusal, or an answer that is right
-abbrev pub IsOrRefused : {A : Type 0} → (A → Answer → Type 0) → Result A Refusal → Answer → Type 0
-IsOrRefused right (Err refusal) answer = answer ≡ refused refusal
+-- the refusal, or an answer that is right; want of memory is no answer
+abbrev pub IsOrRefused : {A : Type 0} → (A → Answer → Type 0) → Result A CaseFault → Answer → Type 0
+IsOrRefused right (Err (Refused refusal)) answer = answer ≡ refused refusal
+IsOrRefused right (Err Memory) answer = ⊥
 IsOrRefused right (Ok value) answer = right value answer

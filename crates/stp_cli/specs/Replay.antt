@@ -12,30 +12,31 @@ use Rattle.stp_happen.specs.declared.run.Run.{Run}
 use Rattle.stp_refusal.specs.declared.code.Code.{Code}
 use Rattle.stp_refusal.specs.declared.code.Code.TheVariants.{V01}
 use Rattle.stp_exec.specs.Lists.{durations_in}
-use Rattle.stp_exec.specs.Timed.{PlainTimed, count_of}
+use Rattle.stp_exec.specs.Timed.{PlainTimes, count_of}
 use Rattle.stp_exec.specs.Fitting.{judge_list, grid_with}
 use Rattle.stp_report.specs.declared.answer.Answer.{Answer}
 use Rattle.stp_report.specs.declared.answer.Answer.TheVariants as answers
 use Rattle.stp_report.specs.declared.answer.FileName.TheVariants as files
-use Rattle.stp_cli.specs.declared.refusal.Refusal.{Refusal}
+use Rattle.stp_cli.specs.declared.refusal.CaseFault.{CaseFault}
 use Rattle.stp_base.specs.Results.{◌>>=◌}
-use Rattle.stp_cli.specs.Refusals.{refusal, IsOrRefused}
+use Rattle.stp_cli.specs.Refusals.{refused_at, IsOrRefused}
 use Rattle.stp_cli.specs.Case.{PlainCase, times_of, grid_of, box_of}
 
 -- a text that is no list of durations
-abbrev pub bad_list : Refusal
-bad_list = refusal files.Durations V01 0
+abbrev pub bad_list : CaseFault
+bad_list = refused_at files.Durations V01 0
 
-abbrev pub list_read : Option (List Fraction) → Result (List Fraction) Refusal
+abbrev pub list_read : Option (List Fraction) → Result (List Fraction) CaseFault
 list_read None = Err bad_list
 list_read (Some durations) = Ok durations
 
-abbrev pub list_fits : Option (Code × ℕ) → List Fraction → Result (List Fraction) Refusal
+abbrev pub list_fits : Option (Code × ℕ) → List Fraction → Result (List Fraction) CaseFault
 list_fits None durations = Ok durations
-list_fits (Some fault) durations = Err (refusal files.Durations fault.0 fault.1)
+list_fits (Some fault) durations = Err (refused_at files.Durations fault.0 fault.1)
 
--- the durations that a text chooses for the uncertain ones of these steps, or its first refusal
-abbrev pub durations_of : List PlainTimed → List ℕ → Result (List Fraction) Refusal
+-- the durations that a text chooses for the uncertain ones of these steps, and the moments for the events whose moment is
+-- chosen, or its first refusal
+abbrev pub durations_of : PlainTimes → List ℕ → Result (List Fraction) CaseFault
 durations_of times text = do
   durations ← list_read (durations_in text)
   list_fits (judge_list times durations) durations

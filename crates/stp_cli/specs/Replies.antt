@@ -7,7 +7,7 @@ use Rattle.stp_cli.specs.declared.status.Status.{Status}
 use Rattle.stp_cli.specs.declared.status.Status.TheVariants as statuses
 
 abbrev pub status_of : Answer → Status
-status_of (answers.Strong steps uncertain grid) = statuses.Done
+status_of (answers.Strong steps uncertain events grid) = statuses.Done
 status_of (answers.Weak grid durations fault) = statuses.No
 status_of (answers.Replay run None) = statuses.Done
 status_of (answers.Replay run (Some fault)) = statuses.No

@@ -1,5 +1,6 @@
 -- The texts of a command's files.
 use Rattle.std.specs.Prelude.{ℕ, ◌≤◌, List, [], length}
+use Rattle.stp_base.specs.declared.limits.TheConstants.{MAX_FILE_BYTES}
 use Rattle.stp_report.specs.declared.answer.FileName.{FileName}
 use Rattle.stp_report.specs.declared.answer.FileName.TheVariants.{Domain, Problem, Plan, Durations}
 use Rattle.stp_cli.specs.declared.texts.Texts.{Texts}
@@ -16,6 +17,6 @@ with_text Durations text texts = texts
 
 -- texts that a file can have
 pub record AreShort (texts : Texts) : Type 0 where
-  pub domain : length texts.domain ≤ 1048576
-  pub problem : length texts.problem ≤ 1048576
-  pub plan : length texts.plan ≤ 1048576
+  pub domain : length texts.domain ≤ MAX_FILE_BYTES
+  pub problem : length texts.problem ≤ MAX_FILE_BYTES
+  pub plan : length texts.plan ≤ MAX_FILE_BYTES

@@ -1,6 +1,7 @@
 //! The case that three files make.
 
-ghost use Rattle.std.specs.Prelude.{◌≡◌, ◌≢◌, ◌≤◌, ℕ, true, length, map, All, IfOk, MatchResult, Ok, Err};
+ghost use Rattle.std.specs.Prelude.{◌≡◌, ◌≢◌, ◌≤◌, length, IfOk, IfErr, Ok, Err};
+ghost use Rattle.stp_base.specs.declared.limits.TheConstants.{MAX_FILE_BYTES};
 ghost use Rattle.stp_text.specs.Tree.{view, nodes};
 ghost use Rattle.stp_text.specs.Reading.{tree_of};
 ghost use Rattle.stp_schema.specs.Views.{domain_of, problem_of};
@@ -9,32 +10,21 @@ ghost use Rattle.stp_problem.specs.Reading.{problem_or_refusal};
 ghost use Rattle.stp_plan.specs.Laws.{IsAbove, IsLawfulPlan};
 ghost use Rattle.stp_plan.specs.Plans.{plan_of};
 ghost use Rattle.stp_plan.specs.Views.{plain_plan};
-ghost use Rattle.stp_exec.specs.Boxed.{placed_or_fault};
-ghost use Rattle.stp_cli.specs.Refusals.{or_refusal, text_refusal, read_refusal, plan_refusal, exec_refusal};
+ghost use Rattle.stp_cli.specs.Refusals.{or_fault, text_fault, read_fault, plan_fault};
 ghost use Rattle.stp_cli.specs.Case.{problem_of_texts, steps_of};
-ghost use Rattle.stp_cli.specs.Cases.{StandsFor, IsReadAs};
-ghost use Rattle.stp_cli.specs.declared.refusal.Refusal.{Refusal as TheRefusal};
+ghost use Rattle.stp_cli.specs.Cases.{IsReadAs};
 
 use crate::refusal::{CaseFault, exec_refused, plan_refused, read_refused, text_refused};
 use bumpalo::Bump;
 use std::alloc::Global;
-use stp_base::List;
 use stp_domain::read_domain;
-use stp_exec::{TimedStep, box_placed, place, timed};
+use stp_exec::{BoxedPlan, box_placed, place};
 use stp_ground::World;
-use stp_happen::BoxRun;
 use stp_plan::{Plan, read_plan};
 use stp_problem::read_problem;
 use stp_report::FileName;
 use stp_schema::{Domain, Problem};
 use stp_text::{Sexpr, tree};
-
-/// The box of a plan's steps on the base grid, and when the steps are.
-#[derive(Drop)]
-pub struct Case<'a> {
-    pub boxed: BoxRun<'a>,
-    pub times: Vec<TimedStep>,
-}
 
 /// The tree of a file's bytes.
 fn read_tree<'a>(
@@ -43,9 +33,9 @@ fn read_tree<'a>(
     file: FileName,
     bytes: &[u8],
 ) -> Result<&'a Sexpr<'a>, CaseFault>
-    requires { length bytes.now ≤ 1048576 }
-    ensures ok { IfOk result (λ t. or_refusal (text_refusal file) (tree_of bytes.now) ≡ Ok (view t.now)) }
-    ensures refused { (r : TheRefusal) → result ≡ Err (CaseFault.Refused r) → or_refusal (text_refusal file) (tree_of bytes.now) ≡ Err r }
+    requires { length bytes.now ≤ MAX_FILE_BYTES }
+    ensures ok { IfOk result (λ t. or_fault (text_fault file) (tree_of bytes.now) ≡ Ok (view t.now)) }
+    ensures refused { IfErr result (λ fault. fault ≢ CaseFault.Memory → or_fault (text_fault file) (tree_of bytes.now) ≡ Err fault) }
 {
     let tree = match tree(alloc, arena, bytes) {
         Ok(tree) => tree,
@@ -63,8 +53,8 @@ fn whole_domain<'a>(
     arena: &'a Bump,
     tree: &'a Sexpr<'a>,
 ) -> Result<Domain<'a>, CaseFault>
-    ensures ok { IfOk result (λ d. or_refusal (read_refusal FileName.Domain) (domain_or_refusal (view tree.now)) ≡ Ok (domain_of d)) }
-    ensures refused { (r : TheRefusal) → result ≡ Err (CaseFault.Refused r) → or_refusal (read_refusal FileName.Domain) (domain_or_refusal (view tree.now)) ≡ Err r }
+    ensures ok { IfOk result (λ d. or_fault (read_fault FileName.Domain) (domain_or_refusal (view tree.now)) ≡ Ok (domain_of d)) }
+    ensures refused { IfErr result (λ fault. fault ≢ CaseFault.Memory → or_fault (read_fault FileName.Domain) (domain_or_refusal (view tree.now)) ≡ Err fault) }
 {
     match read_domain(alloc, arena, tree) {
         Ok(domain) => Ok(domain),
@@ -79,8 +69,8 @@ fn whole_problem<'a>(
     domain: Domain<'a>,
     tree: &'a Sexpr<'a>,
 ) -> Result<Problem<'a>, CaseFault>
-    ensures ok { IfOk result (λ p. or_refusal (read_refusal FileName.Problem) (problem_or_refusal (domain_of domain.entry) (view tree.now)) ≡ Ok (problem_of p)) }
-    ensures refused { (r : TheRefusal) → result ≡ Err (CaseFault.Refused r) → or_refusal (read_refusal FileName.Problem) (problem_or_refusal (domain_of domain.entry) (view tree.now)) ≡ Err r }
+    ensures ok { IfOk result (λ p. or_fault (read_fault FileName.Problem) (problem_or_refusal (domain_of domain.entry) (view tree.now)) ≡ Ok (problem_of p)) }
+    ensures refused { IfErr result (λ fault. fault ≢ CaseFault.Memory → or_fault (read_fault FileName.Problem) (problem_or_refusal (domain_of domain.entry) (view tree.now)) ≡ Err fault) }
 {
     match read_problem(alloc, arena, domain, tree) {
         Ok(problem) => Ok(problem),
@@ -95,10 +85,10 @@ pub fn read_problem_texts<'a>(
     domain: &[u8],
     problem: &[u8],
 ) -> Result<Problem<'a>, CaseFault>
-    requires domain { length domain.now ≤ 1048576 }
-    requires problem { length problem.now ≤ 1048576 }
+    requires domain { length domain.now ≤ MAX_FILE_BYTES }
+    requires problem { length problem.now ≤ MAX_FILE_BYTES }
     ensures ok { IfOk result (λ p. problem_of_texts domain.now problem.now ≡ Ok (problem_of p)) }
-    ensures refused { (r : TheRefusal) → result ≡ Err (CaseFault.Refused r) → problem_of_texts domain.now problem.now ≡ Err r }
+    ensures refused { IfErr result (λ fault. fault ≢ CaseFault.Memory → problem_of_texts domain.now problem.now ≡ Err fault) }
 {
     let domain_tree = match read_tree(alloc, arena, FileName::Domain, domain) {
         Ok(tree) => tree,
@@ -117,10 +107,10 @@ pub fn read_problem_texts<'a>(
 
 /// The plan of a file's bytes.
 fn read_lines(alloc: Global, bytes: &[u8]) -> Result<Plan, CaseFault>
-    requires { length bytes.now ≤ 1048576 }
-    ensures ok { IfOk result (λ plan. or_refusal plan_refusal (plan_of bytes.now) ≡ Ok (plain_plan plan)) }
+    requires { length bytes.now ≤ MAX_FILE_BYTES }
+    ensures ok { IfOk result (λ plan. or_fault plan_fault (plan_of bytes.now) ≡ Ok (plain_plan plan)) }
     ensures lawful { IfOk result (λ plan. IsLawfulPlan IsAbove (plain_plan plan)) }
-    ensures refused { (r : TheRefusal) → result ≡ Err (CaseFault.Refused r) → or_refusal plan_refusal (plan_of bytes.now) ≡ Err r }
+    ensures refused { IfErr result (λ fault. fault ≢ CaseFault.Memory → or_fault plan_fault (plan_of bytes.now) ≡ Err fault) }
 {
     match read_plan(alloc, bytes) {
         Ok(plan) => Ok(plan),
@@ -128,16 +118,16 @@ fn read_lines(alloc: Global, bytes: &[u8]) -> Result<Plan, CaseFault>
     }
 }
 
-/// The case of a plan's bytes in a problem.
+/// The box of a plan's bytes in a problem, and its times.
 pub fn read_steps<'a>(
     alloc: Global,
     arena: &'a Bump,
     problem: &'a Problem<'a>,
     plan: &[u8],
-) -> Result<Case<'a>, CaseFault>
-    requires { length plan.now ≤ 1048576 }
+) -> Result<BoxedPlan<'a>, CaseFault>
+    requires { length plan.now ≤ MAX_FILE_BYTES }
     ensures ok { IfOk result (λ c. IsReadAs c (problem_of problem.now) (steps_of (problem_of problem.now) plan.now)) }
-    ensures refused { (r : TheRefusal) → result ≡ Err (CaseFault.Refused r) → steps_of (problem_of problem.now) plan.now ≡ Err r }
+    ensures refused { IfErr result (λ fault. fault ≢ CaseFault.Memory → steps_of (problem_of problem.now) plan.now ≡ Err fault) }
 {
     let lines = match read_lines(alloc, plan) {
         Ok(lines) => lines,
@@ -148,10 +138,8 @@ pub fn read_steps<'a>(
         Ok(placed) => placed,
         Err(fault) => return Err(exec_refused(fault)),
     };
-    let boxed = match box_placed(alloc, arena, &mut world, placed.as_slice()) {
-        Ok(boxed) => boxed,
-        Err(fault) => return Err(exec_refused(fault)),
-    };
-    let times = timed(alloc, placed.as_slice())?;
-    Ok(Case { boxed, times })
+    match box_placed(alloc, arena, &mut world, placed.as_slice()) {
+        Ok(made) => Ok(made),
+        Err(fault) => Err(exec_refused(fault)),
+    }
 }

@@ -1,6 +1,6 @@
 //! Laws of the answers that may come. Nothing here runs.
 
-ghost use Rattle.stp_cli.specs.Headline.{ChecksMeetTheHeadline, StrongIsExact, ChecksAreOfTexts, ChecksHaveOneText, RefusalsAreExact, RightAnswersAreNoFaults, SteadyNamesAreRead};
+ghost use Rattle.stp_cli.specs.Headline.{ChecksMeetTheHeadline, StrongIsExact, ChecksAreOfTexts, ChecksHaveOneText, NoCaseIsWantOfMemory, NoListIsWantOfMemory, RefusalsAreExact, RightAnswersAreNoFaults, RightAnswersHaveOneText, SteadyNamesAreRead};
 
 /// An answer that may come to `check` over told files of steady names is the one of the headline.
 pub fn checks_meet_the_headline()
@@ -26,6 +26,17 @@ pub fn checks_have_one_text()
 /// A refusal is answered over told files of steady names exactly where it is the first one.
 pub fn refusals_are_exact()
     ensures { RefusalsAreExact }
+{}
+
+/// Two answers that are right on one command's texts are printed alike, to `replay` too.
+pub fn right_answers_have_one_text()
+    ensures { RightAnswersHaveOneText }
+{}
+
+/// Texts are refused or make a case, and lists are refused or read: no definition answers want of memory.
+pub fn nothing_wants_memory()
+    ensures cases { NoCaseIsWantOfMemory }
+    ensures lists { NoListIsWantOfMemory }
 {}
 
 /// What is right on texts is no fault of the outside.

@@ -1,7 +1,7 @@
 //! Refusals of files, and why there is no case.
 
-ghost use Rattle.std.specs.Prelude.{◌≡◌, ◌≢◌, ℕ, Ok, Err};
-ghost use Rattle.stp_cli.specs.Refusals.{refusal, text_refusal, read_refusal, plan_refusal, exec_refusal};
+ghost use Rattle.std.specs.Prelude.{◌≡◌};
+ghost use Rattle.stp_cli.specs.Refusals.{refused_at, text_fault, read_fault, plan_fault, exec_fault};
 ghost use Rattle.stp_cli.specs.declared.refusal.CaseFault.TheVariants.{Memory as OutOfMemory};
 
 use stp_base::Memory;
@@ -41,15 +41,14 @@ impl From<Memory> for CaseFault {
 
 /// A refusal of a file.
 pub(crate) fn refused(file: FileName, code: Code, at: u32) -> CaseFault
-    ensures { result ≡ CaseFault.Refused (refusal file code at) }
+    ensures { result ≡ refused_at file code at }
 {
     CaseFault::Refused(Refusal { file, code, at })
 }
 
-/// A text's fault as a refusal of its file.
+/// A text's fault as what it is to a command.
 pub(crate) fn text_refused(file: FileName, fault: TextFault) -> CaseFault
-    ensures memory { fault ≡ TextFault.Memory → result ≡ CaseFault.Memory }
-    ensures refused { fault ≢ TextFault.Memory → result ≡ CaseFault.Refused (text_refusal file fault) }
+    ensures { result ≡ text_fault file fault }
 {
     match fault {
         TextFault::BadByte(at) => refused(file, Code::T01, at),
@@ -62,10 +61,9 @@ pub(crate) fn text_refused(file: FileName, fault: TextFault) -> CaseFault
     }
 }
 
-/// A reading's fault as a refusal of its file.
+/// A reading's fault as what it is to a command.
 pub(crate) fn read_refused(file: FileName, fault: ReadFault) -> CaseFault
-    ensures memory { fault ≡ ReadFault.Memory → result ≡ CaseFault.Memory }
-    ensures refused { fault ≢ ReadFault.Memory → result ≡ CaseFault.Refused (read_refusal file fault) }
+    ensures { result ≡ read_fault file fault }
 {
     match fault {
         ReadFault::Refused { code, at } => refused(file, code, at),
@@ -73,10 +71,9 @@ pub(crate) fn read_refused(file: FileName, fault: ReadFault) -> CaseFault
     }
 }
 
-/// A fault of a plan's text as a refusal of the plan.
+/// A fault of a plan's text as what it is to a command.
 pub(crate) fn plan_refused(fault: PlanFault) -> CaseFault
-    ensures memory { fault ≡ PlanFault.Memory → result ≡ CaseFault.Memory }
-    ensures refused { fault ≢ PlanFault.Memory → result ≡ CaseFault.Refused (plan_refusal fault) }
+    ensures { result ≡ plan_fault fault }
 {
     match fault {
         PlanFault::BadLine(line) => refused(FileName::Plan, Code::L01, line),
@@ -85,10 +82,9 @@ pub(crate) fn plan_refused(fault: PlanFault) -> CaseFault
     }
 }
 
-/// A fault of a plan's steps as a refusal of the plan.
+/// A fault of a plan's steps as what it is to a command.
 pub(crate) fn exec_refused(fault: ExecFault) -> CaseFault
-    ensures memory { fault ≡ ExecFault.Memory → result ≡ CaseFault.Memory }
-    ensures refused { fault ≢ ExecFault.Memory → result ≡ CaseFault.Refused (exec_refusal fault) }
+    ensures { result ≡ exec_fault fault }
 {
     match fault {
         ExecFault::Step(step, code) => refused(FileName::Plan, code, step.0),

@@ -1,27 +1,27 @@
 //! Runs under chosen durations.
 
-ghost use Rattle.std.specs.Prelude.{◌≡◌, ◌<◌, ◌≤◌, ◌*◌, ◌^◌, true, length, map, All, None, IfOk, IfSome, Ok, Err};
+ghost use Rattle.std.specs.Prelude.{◌≡◌, ◌<◌, ◌≤◌, ◌*◌, ◌≢◌, ◌^◌, length, map, None, IfOk, IfErr, IfSome, Ok, Err};
 ghost use Rattle.stp_frac.specs.Fractions.{value_of, is_below_zero};
 ghost use Rattle.std.specs.Borrow.{Bor};
+ghost use Rattle.stp_base.specs.declared.limits.TheConstants.{MAX_GRID};
 ghost use Rattle.stp_happen.specs.BoxViews.{plain_box};
 ghost use Rattle.stp_happen.specs.Boxes.{finer_box, IsVector};
 ghost use Rattle.stp_happen.specs.declared.run.Run.{Run as TheRun};
 ghost use Rattle.stp_report.specs.Bounds.{IsFaultTime};
 ghost use Rattle.stp_exec.specs.Lists.{durations_in};
-ghost use Rattle.stp_exec.specs.Timed.{base_grid, count_of, plain_timed, is_lawful_timed};
+ghost use Rattle.stp_exec.specs.Timed.{base_grid, count_of};
+ghost use Rattle.stp_exec.specs.TimeViews.{plain_times};
 ghost use Rattle.stp_exec.specs.Fitting.{grid_with, judge_list};
-ghost use Rattle.stp_cli.specs.Case.{PlainCase, times_of};
+ghost use Rattle.stp_cli.specs.Case.{PlainCase};
 ghost use Rattle.stp_cli.specs.Cases.{StandsFor};
 ghost use Rattle.stp_cli.specs.Replies.{IsReply};
-ghost use Rattle.stp_cli.specs.Replay.{bad_list, list_read, list_fits, durations_of, IsRunWith, IsReplayedCase};
-ghost use Rattle.stp_cli.specs.declared.refusal.Refusal.{Refusal as TheRefusal};
+ghost use Rattle.stp_cli.specs.Replay.{bad_list, list_read, list_fits, IsRunWith, IsReplayedCase};
 
-use crate::case::Case;
 use crate::refusal::{CaseFault, read_refused, refused};
 use crate::reply::{Reply, refuse, reply_with};
 use std::alloc::Global;
 use stp_base::{List, Memory, StateRow};
-use stp_exec::{Fitted, ListFault, TimedStep, fit_durations, read_durations};
+use stp_exec::{BoxedPlan, Fitted, ListFault, Times, fit_durations, read_durations};
 use stp_frac::Frac;
 use stp_happen::refine::refine;
 use stp_happen::run_at::run_at;
@@ -32,7 +32,7 @@ use stp_report::{Answer, FileName};
 /// A fault of a list of durations as its refusal.
 fn list_refused(fault: ListFault) -> CaseFault
     ensures memory { fault ≡ ListFault.Memory → result ≡ CaseFault.Memory }
-    ensures refused { fault ≡ ListFault.BadList → result ≡ CaseFault.Refused bad_list }
+    ensures refused { fault ≡ ListFault.BadList → result ≡ bad_list }
 {
     match fault {
         ListFault::BadList => refused(FileName::Durations, Code::V01, 0),
@@ -44,7 +44,7 @@ fn list_refused(fault: ListFault) -> CaseFault
 fn read_list(alloc: Global, text: &[u8]) -> Result<List<Frac>, CaseFault>
     ensures ok { IfOk result (λ r. list_read (durations_in text.now) ≡ Ok (map value_of r)) }
     ensures few { IfOk result (λ r. length r < 2 ^ 32) }
-    ensures refused { (r : TheRefusal) → result ≡ Err (CaseFault.Refused r) → list_read (durations_in text.now) ≡ Err r }
+    ensures refused { IfErr result (λ fault. fault ≢ CaseFault.Memory → list_read (durations_in text.now) ≡ Err fault) }
 {
     let durations = match read_durations(alloc, text) {
         Ok(durations) => durations,
@@ -60,17 +60,16 @@ fn read_list(alloc: Global, text: &[u8]) -> Result<List<Frac>, CaseFault>
 fn fit(
     alloc: Global,
     grid: u128,
-    times: &[TimedStep],
+    times: &Times<'_>,
     durations: &[Frac],
 ) -> Result<Fitted, CaseFault>
-    requires base { grid ≡ base_grid (map plain_timed times.now) }
-    requires high { grid ≤ 999999999 }
+    requires base { grid ≡ base_grid (plain_times times.now) }
+    requires high { grid ≤ MAX_GRID }
     requires few { length durations.now < 2 ^ 32 }
-    requires lawful { All (λ step. is_lawful_timed (plain_timed step) ≡ true) times.now }
-    ensures judged { IfOk result (λ _. judge_list (map plain_timed times.now) (map value_of durations.now) ≡ None) }
-    ensures grid { IfOk result (λ f. f.grid ≡ grid_with (map plain_timed times.now) (map value_of durations.now)) }
+    ensures judged { IfOk result (λ _. judge_list (plain_times times.now) (map value_of durations.now) ≡ None) }
+    ensures grid { IfOk result (λ f. f.grid ≡ grid_with (plain_times times.now) (map value_of durations.now)) }
     ensures durations { IfOk result (λ f. f.durations ≡ map (count_of f.grid) (map value_of durations.now)) }
-    ensures refused { (r : TheRefusal) → result ≡ Err (CaseFault.Refused r) → list_fits (judge_list (map plain_timed times.now) (map value_of durations.now)) (map value_of durations.now) ≡ Err r }
+    ensures refused { IfErr result (λ fault. fault ≢ CaseFault.Memory → list_fits (judge_list (plain_times times.now) (map value_of durations.now)) (map value_of durations.now) ≡ Err fault) }
 {
     match fit_durations(alloc, grid, times, durations) {
         Ok(fitted) => Ok(fitted),
@@ -94,7 +93,7 @@ fn run_on(
     durations: &[u128],
 ) -> Result<Reply, Memory>
     requires factor { 1 ≤ factor }
-    requires grid { boxed.now.grid * factor ≤ 999999999 }
+    requires grid { boxed.now.grid * factor ≤ MAX_GRID }
     requires vector { IsVector (finer_box factor (plain_box boxed.now)).owners durations.now }
     ensures { IfOk result (λ r. IsReply (IsRunWith (boxed.now.grid * factor) (finer_box factor (plain_box boxed.now)) durations.now) r.status r.text) }
 {
@@ -106,7 +105,7 @@ fn run_on(
 }
 
 /// The reply to `replay` on a case and a list of durations.
-pub fn replay(alloc: Global, case: &Case<'_>, list: &[u8]) -> Result<Reply, Memory>
+pub fn replay(alloc: Global, case: &BoxedPlan<'_>, list: &[u8]) -> Result<Reply, Memory>
     requires { (c : PlainCase) × StandsFor case.now c }
     ensures { IfOk result (λ r. (c : PlainCase) → StandsFor case.now c → IsReply (IsReplayedCase list.now c) r.status r.text) }
 {

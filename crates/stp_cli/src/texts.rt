@@ -1,6 +1,7 @@
 //! The texts of a command's files.
 
 ghost use Rattle.std.specs.Prelude.{◌≡◌, ◌≤◌, length};
+ghost use Rattle.stp_base.specs.declared.limits.TheConstants.{MAX_FILE_BYTES};
 ghost use Rattle.stp_cli.specs.Texts.{no_texts, with_text, AreShort};
 
 use std::alloc::Global;
@@ -29,7 +30,7 @@ impl Texts {
 
     /// Keeps the text of a file. Durations are listed in a word and not in a file.
     pub fn put(&mut self, role: FileName, text: Text)
-        requires short { length text ≤ 1048576 }
+        requires short { length text ≤ MAX_FILE_BYTES }
         requires all { AreShort self.old }
         ensures put { self.new ≡ with_text role text self.old }
         ensures short { AreShort self.new }

@@ -1,6 +1,7 @@
 //! Verdicts on boxes.
 
-ghost use Rattle.std.specs.Prelude.{◌≡◌, ◌<◌, ◌≤◌, ◌^◌, length, count_by, IfOk};
+ghost use Rattle.std.specs.Prelude.{◌≡◌, ◌+◌, ◌<◌, ◌≤◌, ◌^◌, length, count_by, IfOk};
+ghost use Rattle.stp_base.specs.declared.limits.TheConstants.{MAX_EVENTS, MAX_STEPS, MAX_TIMED};
 ghost use Rattle.stp_happen.specs.BoxViews.{plain_box};
 ghost use Rattle.stp_happen.specs.Boxes.{IsStrong};
 ghost use Rattle.stp_happen.specs.LeastFailure.{IsLeastFailure};
@@ -11,7 +12,7 @@ use crate::reply::{Reply, reply_with};
 use std::alloc::Global;
 use stp_base::{Memory, StateRow};
 use stp_happen::run_at::run_at;
-use stp_happen::{BoxRun, BoxStep, first_fault};
+use stp_happen::{BoxRun, BoxStep, BoxTimed, first_fault};
 use stp_least::least_failure;
 use stp_report::Answer;
 
@@ -23,9 +24,18 @@ fn count_uncertain(steps: &[BoxStep<'_>]) -> u32
     steps.iter().filter(|step| step.uncertain).count() as u32
 }
 
+/// How many of these events have a moment that is chosen.
+fn count_chosen(events: &[BoxTimed<'_>]) -> u32
+    requires { length events.now < 2 ^ 32 }
+    ensures { result ≡ count_by (λ e. e.uncertain) events.now }
+{
+    events.iter().filter(|event| event.uncertain).count() as u32
+}
+
 /// The reply where a box is strong.
 fn strong(alloc: Global, boxed: &BoxRun<'_>) -> Result<Reply, Memory>
-    requires few { length boxed.now.steps ≤ 500 }
+    requires few { length boxed.now.steps ≤ MAX_STEPS }
+    requires few_events { length boxed.now.timed ≤ MAX_TIMED + MAX_EVENTS }
     requires strong { IsStrong (plain_box boxed.now) }
     ensures { IfOk result (λ r. IsReply (IsVerdict boxed.now.grid (plain_box boxed.now)) r.status r.text) }
 {
@@ -33,6 +43,7 @@ fn strong(alloc: Global, boxed: &BoxRun<'_>) -> Result<Reply, Memory>
     let answer = Answer::Strong {
         steps: steps.len() as u32,
         uncertain: count_uncertain(steps),
+        events: count_chosen(boxed.timed.as_slice()),
         grid: boxed.grid,
     };
     reply_with(alloc, &answer)

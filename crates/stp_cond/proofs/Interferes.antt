@@ -6,7 +6,7 @@ use Rattle.stp_cond.proofs.Rising.{has_first}
 
 -- ---- tests
 
-either : (b c : Bool) → (b || c) ≡ true → (b ≡ true) ⊎ (c ≡ true)
+pub either : (b c : Bool) → (b || c) ≡ true → (b ≡ true) ⊎ (c ≡ true)
 either true c h = inl refl
 either false c h = inr h
 

@@ -4,6 +4,7 @@ pub mod Among
 pub mod EventLists
 pub mod Equations
 pub mod Reading
+pub mod ReadingAlone
 pub mod Viewing
 pub mod Shapes
 pub mod Meaning

@@ -1,5 +1,5 @@
 -- Sets of atoms as lists of their numbers, and the events that read, add and delete them.
-use Rattle.std.specs.Prelude.{ℕ, Bool, ◌==◌, ◌&&◌, ◌||◌, not, nat_lt, if◌then◌else◌, List, [], ◌∷◌, filter}
+use Rattle.std.specs.Prelude.{◌≡◌, ℕ, Bool, ◌==◌, ◌&&◌, ◌||◌, not, nat_lt, if◌then◌else◌, List, [], ◌∷◌, filter, All}
 use Rattle.std.specs.List.{list_any, list_all}
 
 -- whether an atom is among these
@@ -29,6 +29,10 @@ pub record PlainEvent : Type 0 where
   pub reads : List ℕ
   pub adds : List ℕ
   pub dels : List ℕ
+
+-- a condition depends only on the atoms that its event reads
+abbrev pub ReadsAlone : PlainEvent → Type 0
+ReadsAlone e = (s t : ℕ → Bool) → All (λ a. s a ≡ t a) e.reads → e.cond s ≡ e.cond t
 
 -- the state after an event: what it deletes is false, and then what it adds is true
 abbrev pub changed_by : PlainEvent → (ℕ → Bool) → ℕ → Bool

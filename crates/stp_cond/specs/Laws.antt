@@ -1,9 +1,11 @@
--- Laws about formulas.
+-- Laws about formulas and the conditions of events.
 use Rattle.std.specs.Prelude.{◌≡◌, ℕ, ◌<◌, Bool, true, false, not, List, length, map, slice_index}
 use Rattle.std.specs.List.{list_all}
 use Rattle.stp_cond.specs.declared.cond.Cond.{Cond}
+use Rattle.stp_cond.specs.declared.event.Event.{Event}
 use Rattle.stp_cond.specs.declared.known.Three.{Three}
-use Rattle.stp_cond.specs.Atoms.{has, set_of}
+use Rattle.stp_cond.specs.Atoms.{ReadsAlone, has, set_of}
+use Rattle.stp_cond.specs.Events.{event_of}
 use Rattle.stp_cond.specs.Truth.{truth, reads_only}
 use Rattle.stp_cond.specs.Formulas.{Formula, Negation, view, holds_in, atoms_in}
 use Rattle.stp_cond.specs.Folded.{Agrees, folded}
@@ -12,6 +14,10 @@ use Rattle.stp_cond.specs.Substituted.{image_of, substituted}
 -- the truth of a formula depends only on the atoms that it reads
 abbrev pub TruthReadsItsAtoms : Type 0
 TruthReadsItsAtoms = (these s t : ℕ → Bool) (cond : Cond) → reads_only these cond ≡ true → ((a : ℕ) → these a ≡ true → s a ≡ t a) → truth s cond ≡ truth t cond
+
+-- the condition of an event in an arena depends only on the atoms that it reads
+abbrev pub EventsReadAlone : Type 0
+EventsReadAlone = (e : Event) → ReadsAlone (event_of e)
 
 -- the truth of a condition in an arena is that of what it stands for
 abbrev pub TruthIsOfShape : Type 0

@@ -1,11 +1,16 @@
-//! Laws about formulas.
+//! Laws about formulas and the conditions of events.
 
 ghost use Rattle.stp_cond.specs.Interferences.{AtomsShowInterference};
-ghost use Rattle.stp_cond.specs.Laws.{AtomsDecideTruth, TruthReadsItsAtoms, TruthIsOfShape, ReadsAreOfShape, NegationTurnsTruth, FoldingKeepsTruth, FoldingKeepsAtoms, SubstitutionKeepsTruth, SubstitutionMapsAtoms, ImageIsAtItsPlace, OtherAtomsStay};
+ghost use Rattle.stp_cond.specs.Laws.{AtomsDecideTruth, EventsReadAlone, TruthReadsItsAtoms, TruthIsOfShape, ReadsAreOfShape, NegationTurnsTruth, FoldingKeepsTruth, FoldingKeepsAtoms, SubstitutionKeepsTruth, SubstitutionMapsAtoms, ImageIsAtItsPlace, OtherAtomsStay};
 
 /// The truth of a formula depends only on the atoms that it reads.
 pub fn truth_reads_its_atoms()
     ensures { TruthReadsItsAtoms }
+{}
+
+/// The condition of an event depends only on the atoms that the event reads.
+pub fn events_read_alone()
+    ensures { EventsReadAlone }
 {}
 
 /// The truth of a formula, and the atoms that it reads, are those of its shape.

@@ -1,7 +1,7 @@
 //! Sets of atoms as ascending lists.
 
 ghost use Rattle.std.specs.Prelude.{◌≡◌, IfOk};
-ghost use Rattle.stp_cond.specs.Atoms.{has, have_common as have_common_lem, set_of, without as without_lem};
+ghost use Rattle.stp_cond.specs.Atoms.{has, have_common, set_of, without};
 ghost use Rattle.stp_cond.specs.Views.{atoms_of};
 
 use bumpalo::Bump;
@@ -53,7 +53,7 @@ pub fn is_among(atoms: &[AtomId], atom: AtomId) -> bool
 /// Whether the one list and the other, which is ascending, have an atom in common.
 pub fn have_common(one: &[AtomId], other: &[AtomId]) -> bool
     requires { set_of (atoms_of other.now) ≡ atoms_of other.now }
-    ensures { result ≡ have_common_lem (atoms_of one.now) (atoms_of other.now) }
+    ensures { result ≡ have_common (atoms_of one.now) (atoms_of other.now) }
 {
     one.iter().any(|atom| is_among(other, *atom))
 }
@@ -66,7 +66,7 @@ pub fn without<'a>(
 ) -> Result<&'a [AtomId], Memory>
     requires { set_of (atoms_of other.now) ≡ atoms_of other.now }
     ensures { IfOk result
-        (λ r. atoms_of r.now ≡ without_lem (atoms_of atoms.now) (atoms_of other.now)) }
+        (λ r. atoms_of r.now ≡ without (atoms_of atoms.now) (atoms_of other.now)) }
 {
     let mut left = Vec::with_capacity(arena, atoms.len())?;
     for atom in atoms {

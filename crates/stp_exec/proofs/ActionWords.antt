@@ -13,7 +13,7 @@ use Rattle.stp_task.specs.Durations.{PlainDuration}
 use Rattle.stp_instance.specs.Timings.{duration_of}
 use Rattle.stp_base.specs.Results.{◌>>=◌}
 use Rattle.stp_ground.specs.Problems.{below}
-use Rattle.stp_ground.specs.Chosen.{PlainChosen, argument, arguments, bound, chosen_by, chosen_under, fitting, named}
+use Rattle.stp_ground.specs.Chosen.{PlainChosen, argument, arguments, bound, chosen_by, chosen_under, fitting}
 use Rattle.stp_ground.specs.declared.fault.InstanceFault.{InstanceFault}
 use Rattle.stp_ground.specs.declared.fault.InstanceFault.TheVariants.{UnknownAction, WrongCount, UnknownObject, WrongType, NoDuration}
 use Rattle.stp_exec.specs.Laws.{OneActionHasSameWords}
@@ -137,7 +137,7 @@ same_number : (n m : ℕ) → (n == m) ≡ true → n ≡ m
 same_number n m e = grind (arith, nat_tests, e)
 
 pub one_action_has_same_words : OneActionHasSameWords
-one_action_has_same_words p s t x y e f same =
-    same_words p s.name t.name s.args t.args x.chosen y.chosen (choice_is p s x e) (choice_is p t y f)
+one_action_has_same_words p i j s t x y e f same =
+    same_words p s.name t.name s.args t.args x.chosen y.chosen (choice_is p i s x e) (choice_is p j t y f)
     (same_number x.chosen.schema y.chosen.schema (left_true (x.chosen.schema == y.chosen.schema) (bytes_eq x.chosen.args y.chosen.args) same))
     (names_same x.chosen.args y.chosen.args (right_true (x.chosen.schema == y.chosen.schema) (bytes_eq x.chosen.args y.chosen.args) same))

@@ -45,6 +45,16 @@ pub less_on : (f g : Fraction) → 0 < f.bottom → 0 < g.bottom → is_less zer
 unfolding order_of
 less_on f g pf pg h k = less_on_top f.top g.top f.bottom g.bottom pf pg (above_zero f h).0 (above_zero f h).1 k
 
+above_on_top : (y z : ℤ) (b c : ℕ) → 0 < b → is_below_zero y ≡ false → is_le (int_cmp (y *ℤ pos c) (z *ℤ pos b)) ≡ true → is_below_zero z ≡ false
+above_on_top (pos a) (pos m) b c pb sign h = refl
+above_on_top (pos a) (negsuc m) b c pb sign h = absurd (never_at_most (a * c) (suc m * b) (mul-pos (omega arith) pb) h)
+above_on_top (negsuc a) z b c pb sign h = absurd (true≢false sign)
+
+-- a number that is at least one from 0 on is from 0 on
+pub above_on : (f g : Fraction) → 0 < f.bottom → is_below_zero f.top ≡ false → is_at_most f g ≡ true → is_below_zero g.top ≡ false
+unfolding order_of
+above_on f g pf h k = above_on_top f.top g.top f.bottom g.bottom pf h k
+
 -- ---- counts
 
 -- a denominator that divides a grid
@@ -122,11 +132,17 @@ late_or grid f g pg lf lg =
 abbrev pub HeldLies : ℕ → PlainHeld → Type 0
 HeldLies grid held = list_all (λ d. divides d grid) (held_denominators held) ≡ true
 
+-- numbers from 0 on are ordered as their counts are
+pub count_order : (grid : ℕ) (f g : Fraction) → 0 < grid → Lies grid f → Lies grid g → is_below_zero f.top ≡ false → is_below_zero g.top ≡ false → order_of f g ≡ nat_cmp (count_of grid f) (count_of grid g)
+count_order grid f g pg lf lg above above' =
+    counts_keep_order f g grid (count_of grid f) (count_of grid g) pg (bottom_pos grid f pg lf) (bottom_pos grid g pg lg) (count_is grid f pg lf above) (count_is grid g pg lg above')
+
+pub at_most_count : (m n : ℕ) → is_le (nat_cmp m n) ≡ true → m ≤ n
+at_most_count m n h = grind (arith, nat_tests)
+
 count_ordered : (grid : ℕ) (f g : Fraction) → 0 < grid → Lies grid f → Lies grid g → is_less zero f ≡ true → is_less zero g ≡ true → is_at_most f g ≡ true → count_of grid f ≤ count_of grid g
 count_ordered grid f g pg lf lg some some' h =
-    let e : order_of f g ≡ nat_cmp (count_of grid f) (count_of grid g) = counts_keep_order f g grid (count_of grid f) (count_of grid g) pg (bottom_pos grid f pg lf) (bottom_pos grid g pg lg) (count_is grid f pg lf (above_zero f some).0) (count_is grid g pg lg (above_zero g some').0) in
-    let k : is_le (nat_cmp (count_of grid f) (count_of grid g)) ≡ true = sym (ap is_le e) ∙ h in
-    grind (arith, nat_tests)
+    at_most_count (count_of grid f) (count_of grid g) (sym (ap is_le (count_order grid f g pg lf lg (above_zero f some).0 (above_zero g some').0)) ∙ h)
 
 high_above : (grid : ℕ) (low high : Fraction) → 0 < grid → Lies grid low → Lies grid high → (is_less zero low && is_at_most low high) ≡ true → is_less zero high ≡ true
 high_above grid low high pg ll lh h =

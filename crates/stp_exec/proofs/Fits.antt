@@ -1,47 +1,50 @@
--- Durations and the bounds of open steps, one at a time.
-use Rattle.std.proofs.Common.{◌≡◌, ℕ, ◌+◌, ◌<◌, ◌≤◌, ◌==◌, Bool, true, false, if◌then◌else◌, List, [], ◌∷◌, ◌++◌, length, map, drop, get_or, Option, Some, None, refl, sym, ap, ap₂, ◌∙◌, subst, arith, append_assoc}
+-- Durations, and the bounds of what stays open, one at a time.
+use Rattle.std.proofs.Common.{◌≡◌, ℕ, ◌+◌, ◌<◌, ◌≤◌, ◌==◌, Bool, true, false, if◌then◌else◌, List, [], ◌∷◌, ◌++◌, length, map, flat_map, drop, get_or, Option, Some, None, refl, sym, ap, ap₂, ◌∙◌, subst, arith, append_assoc}
 use Rattle.std.specs.List.{All}
 use Prim.Native.Nat.{◌∣◌}
 use Rattle.std.proofs.lemmas.Bool.Decides.{nat_tests}
 use Rattle.std.proofs.lemmas.Nat.Gcd.{dvd_trans}
-use Rattle.std.proofs.lemmas.List.{drop_more, drop_all, append-nil, length-map}
+use Rattle.std.proofs.lemmas.List.{drop_all, append-nil, length-map}
 use Rattle.std.proofs.lemmas.List.Elements.{All-nil, All-cons, All-head, All-tail}
 use Rattle.stp_frac.specs.declared.frac.Frac.{Frac}
 use Rattle.stp_frac.specs.Divisors.{lcm, divides}
-use Rattle.stp_frac.specs.Fractions.{Fraction, value_of, is_below_zero, up_to, zero, is_less, is_at_most}
+use Rattle.stp_frac.specs.Fractions.{Fraction, value_of, is_below_zero, up_to, is_at_most}
 use Rattle.stp_frac.proofs.Divisors.{divides_from, left_true, right_true, lcm_pos, lcm_multiple_left, lcm_multiple_right}
+use Rattle.stp_schema.specs.declared.timed.TimedFact.{TimedFact}
+use Rattle.stp_schema.specs.Timed.{IsTimedFact, is_chosen, timed_fact_of, timed_facts_of}
 use Rattle.stp_refusal.specs.declared.code.Code.TheVariants.{V02, V03, V04}
 use Rattle.stp_exec.specs.declared.held.Held.{Held}
 use Rattle.stp_exec.specs.declared.held.Held.TheVariants.{Instant, Fixed, Open}
 use Rattle.stp_exec.specs.declared.timed_step.TimedStep.{TimedStep}
+use Rattle.stp_exec.specs.declared.times.Times.{Times}
 use Rattle.stp_exec.specs.declared.fit.Bounds.{Bounds}
 use Rattle.stp_exec.specs.Held.{plain_held, is_within, is_lawful_held}
-use Rattle.stp_exec.specs.Timed.{PlainTimed, plain_timed, is_lawful_timed, common_multiple, count_of}
-use Rattle.stp_exec.specs.Fitting.{plain_bounds, held_bounds, open_bounds, outside_from, bottoms, grid_with, unless_outside, unless_fine, judge_list}
+use Rattle.stp_exec.specs.Timed.{PlainTimes, plain_timed, is_lawful_timed, common_multiple, count_of}
+use Rattle.stp_exec.specs.TimeViews.{plain_times}
+use Rattle.stp_exec.specs.Fitting.{plain_bounds, held_bounds, step_bounds, event_bounds, open_bounds, outside_from, bottoms, grid_with, unless_outside, unless_fine, judge_list}
 use Rattle.stp_exec.proofs.Multiples.{Positive, common_pos, lcm_assoc, lcm_one_right, lcm_above, within_is, beyond_is, beyond_from}
-use Rattle.stp_exec.proofs.TimedSteps.{at_step}
-use Rattle.stp_exec.proofs.Bounds.{less_on, above_zero}
+use Rattle.stp_exec.proofs.Joining.{at_item}
+use Rattle.stp_exec.proofs.Bounds.{above_on, low_above}
 
-at_item : {A : Type 0} (xs : List A) (i : ℕ) (x : A) → i < length xs → get_or xs i x ≡ x → drop i xs ≡ x ∷ drop (i + 1) xs
-at_item xs i x h is = drop_more xs i x h ∙ ap (λ y. y ∷ drop (i + 1) xs) is
+-- ---- the bounds so far, and those of the items that are left
 
--- ---- the bounds so far, and those of the steps that are left
+abbrev pub AreBounds : {A B : Type 0} → (A → B) → (B → List (Fraction × Fraction)) → List Bounds → List Bounds → ℕ → List A → Type 0
+AreBounds view inside start bounds i xs = map plain_bounds bounds ++ flat_map inside (map view (drop i xs)) ≡ map plain_bounds start ++ flat_map inside (map view xs)
 
-abbrev pub AreBounds : List Bounds → ℕ → List TimedStep → Type 0
-AreBounds bounds i steps = map plain_bounds bounds ++ open_bounds (map plain_timed (drop i steps)) ≡ open_bounds (map plain_timed steps)
+module _ {A B : Type 0} (view : A → B) (inside : B → List (Fraction × Fraction)) (start : List Bounds) where
+  pub bounds_more : (bounds more : List Bounds) (x : A) (xs : List A) (i : ℕ) → i < length xs → get_or xs i x ≡ x → map plain_bounds more ≡ map plain_bounds bounds ++ inside (view x) → AreBounds view inside start bounds i xs → AreBounds view inside start more (i + 1) xs
+  bounds_more bounds more x xs i h is e so_far =
+      let rest = flat_map inside (map view (drop (i + 1) xs)) in
+      ap (λ b. b ++ rest) e
+      ∙ append_assoc (map plain_bounds bounds) (inside (view x)) rest
+      ∙ ap (λ l. map plain_bounds bounds ++ flat_map inside (map view l)) (sym (at_item xs i x h is))
+      ∙ so_far
 
-pub bounds_more : (bounds more : List Bounds) (step : TimedStep) (steps : List TimedStep) (i : ℕ) → i < length steps → get_or steps i step ≡ step → map plain_bounds more ≡ map plain_bounds bounds ++ held_bounds (plain_held step.held) → AreBounds bounds i steps → AreBounds more (i + 1) steps
-bounds_more bounds more step steps i h is e so_far =
-    ap (λ b. b ++ open_bounds (map plain_timed (drop (i + 1) steps))) e
-    ∙ append_assoc (map plain_bounds bounds) (held_bounds (plain_held step.held)) (open_bounds (map plain_timed (drop (i + 1) steps)))
-    ∙ ap (λ l. map plain_bounds bounds ++ open_bounds (map plain_timed l)) (sym (at_step steps i step h is))
-    ∙ so_far
-
-pub bounds_all : (bounds : List Bounds) (steps : List TimedStep) (i : ℕ) → length steps ≤ i → AreBounds bounds i steps → map plain_bounds bounds ≡ open_bounds (map plain_timed steps)
-bounds_all bounds steps i h so_far =
-    sym (append-nil (map plain_bounds bounds))
-    ∙ ap (λ l. map plain_bounds bounds ++ open_bounds (map plain_timed l)) (sym (drop_all i steps h))
-    ∙ so_far
+  pub bounds_all : (bounds : List Bounds) (xs : List A) (i : ℕ) → length xs ≤ i → AreBounds view inside start bounds i xs → map plain_bounds bounds ≡ map plain_bounds start ++ flat_map inside (map view xs)
+  bounds_all bounds xs i h so_far =
+      sym (append-nil (map plain_bounds bounds))
+      ∙ ap (λ l. map plain_bounds bounds ++ flat_map inside (map view l)) (sym (drop_all i xs h))
+      ∙ so_far
 
 -- ---- the first duration outside
 
@@ -129,27 +132,47 @@ pub counts_all : (counts : List ℕ) (grid i : ℕ) (durations : List Frac) → 
 counts_all counts grid i durations h so_far =
     sym (append-nil counts) ∙ ap (λ l. counts ++ map (count_of grid) (map value_of l)) (sym (drop_all i durations h)) ∙ so_far
 
--- ---- durations within lawful bounds are above 0
+-- ---- durations within lawful bounds are from 0 on
 
--- low bounds above 0
+-- low bounds from 0 on
 abbrev pub Lows : List (Fraction × Fraction) → Type 0
 Lows [] = Unit {0}
-Lows (b ∷ bounds) = (0 < b.0.bottom) × (is_less zero b.0 ≡ true) × Lows bounds
+Lows (b ∷ bounds) = (0 < b.0.bottom) × (is_below_zero b.0.top ≡ false) × Lows bounds
 
-held_lows : (held : Held) (rest : List (Fraction × Fraction)) → is_lawful_held (plain_held held) ≡ true → Lows rest → Lows (held_bounds (plain_held held) ++ rest)
-held_lows Instant rest h l = l
-held_lows (Fixed duration) rest h l = l
-held_lows (Open low high) rest h l = (omega (arith, low.low), left_true (is_less zero (value_of low)) (is_at_most (value_of low) (value_of high)) h, l)
+append_lows : (bounds more : List (Fraction × Fraction)) → Lows bounds → Lows more → Lows (bounds ++ more)
+append_lows [] more l k = k
+append_lows (b ∷ bounds) more l k = (l.0, l.1, append_lows bounds more l.2 k)
 
-pub steps_lows : (steps : List TimedStep) → All (λ step. is_lawful_timed (plain_timed step) ≡ true) steps → Lows (open_bounds (map plain_timed steps))
+held_lows : (held : Held) → is_lawful_held (plain_held held) ≡ true → Lows (held_bounds (plain_held held))
+held_lows Instant h = tt
+held_lows (Fixed duration) h = tt
+held_lows (Open low high) h = (omega (arith, low.low), low_above (value_of low) (value_of high) h, tt)
+
+steps_lows : (steps : List TimedStep) → All (λ step. is_lawful_timed (plain_timed step) ≡ true) steps → Lows (flat_map step_bounds (map plain_timed steps))
 steps_lows [] h = tt
 steps_lows (step ∷ steps) h =
-    held_lows step.held (open_bounds (map plain_timed steps))
-    (lawful_part step (All-head (λ step. is_lawful_timed (plain_timed step) ≡ true) step steps h))
+    append_lows (step_bounds (plain_timed step)) (flat_map step_bounds (map plain_timed steps))
+    (held_lows step.held (lawful_part step (All-head (λ step. is_lawful_timed (plain_timed step) ≡ true) step steps h)))
     (steps_lows steps (All-tail (λ step. is_lawful_timed (plain_timed step) ≡ true) step steps h))
   where
     lawful_part : (step : TimedStep) → is_lawful_timed (plain_timed step) ≡ true → is_lawful_held (plain_held step.held) ≡ true
     lawful_part step h = right_true _ (is_lawful_held (plain_held step.held)) h
+
+event_lows : (chosen : Bool) (e : TimedFact) → is_below_zero (value_of e.low).top ≡ false → Lows (if chosen then (value_of e.low, value_of e.high) ∷ [] else [])
+event_lows true e h = (omega (arith, e.low.low), h, tt)
+event_lows false e h = tt
+
+events_lows : (events : List TimedFact) → All IsTimedFact (timed_facts_of events) → Lows (flat_map event_bounds (timed_facts_of events))
+events_lows [] h = tt
+events_lows (e ∷ events) h =
+    append_lows (event_bounds (timed_fact_of e)) (flat_map event_bounds (timed_facts_of events))
+    (event_lows (is_chosen (timed_fact_of e)) e (All-head IsTimedFact (timed_fact_of e) (timed_facts_of events) h).early)
+    (events_lows events (All-tail IsTimedFact (timed_fact_of e) (timed_facts_of events) h))
+
+pub times_lows : (times : Times) → Lows (open_bounds (plain_times times))
+times_lows times =
+    append_lows (flat_map step_bounds (map plain_timed times.steps.items)) (flat_map event_bounds (timed_facts_of times.events.now))
+    (steps_lows times.steps.items times.lawful) (events_lows times.events.now times.kept.each)
 
 abbrev pub AreAbove : List Frac → Type 0
 AreAbove durations = All (λ d. is_below_zero (value_of d).top ≡ false) durations
@@ -168,7 +191,7 @@ inside_above n (b ∷ bounds) [] l e h = All-nil (λ d. is_below_zero (value_of 
 inside_above n (b ∷ bounds) (d ∷ durations) l e h =
     let split = inside_split (is_within b.0 b.1 (value_of d)) n (outside_from (n + 1) bounds (map value_of durations)) h in
     All-cons (λ d. is_below_zero (value_of d).top ≡ false) d durations
-    (above_zero (value_of d) (less_on b.0 (value_of d) l.0 (omega (arith, d.low)) l.1 (left_true (is_at_most b.0 (value_of d)) (is_at_most (value_of d) b.1) split.0))).0
+    (above_on b.0 (value_of d) l.0 l.1 (left_true (is_at_most b.0 (value_of d)) (is_at_most (value_of d) b.1) split.0))
     (inside_above (n + 1) bounds durations l.2 (omega (arith, e)) split.1)
 
 -- ---- judging
@@ -179,23 +202,23 @@ even_test m n e = grind (arith, nat_tests)
 odd_test : (m n : ℕ) → (m ≡ n → ⊥) → (m == n) ≡ false
 odd_test m n e = grind (arith, nat_tests)
 
-pub judge_odd : (steps : List PlainTimed) (durations : List Fraction) → (length durations ≡ length (open_bounds steps) → ⊥) → judge_list steps durations ≡ Some (V02, length durations)
-judge_odd steps durations e =
-    ap (λ b. if b then unless_outside (outside_from 1 (open_bounds steps) durations) (unless_fine (grid_with steps durations)) else Some (V02, length durations))
-    (odd_test (length durations) (length (open_bounds steps)) e)
+pub judge_odd : (times : PlainTimes) (durations : List Fraction) → (length durations ≡ length (open_bounds times) → ⊥) → judge_list times durations ≡ Some (V02, length durations)
+judge_odd times durations e =
+    ap (λ b. if b then unless_outside (outside_from 1 (open_bounds times) durations) (unless_fine (grid_with times durations)) else Some (V02, length durations))
+    (odd_test (length durations) (length (open_bounds times)) e)
 
-judge_even : (steps : List PlainTimed) (durations : List Fraction) → length durations ≡ length (open_bounds steps) → judge_list steps durations ≡ unless_outside (outside_from 1 (open_bounds steps) durations) (unless_fine (grid_with steps durations))
-judge_even steps durations e =
-    ap (λ b. if b then unless_outside (outside_from 1 (open_bounds steps) durations) (unless_fine (grid_with steps durations)) else Some (V02, length durations))
-    (even_test (length durations) (length (open_bounds steps)) e)
+judge_even : (times : PlainTimes) (durations : List Fraction) → length durations ≡ length (open_bounds times) → judge_list times durations ≡ unless_outside (outside_from 1 (open_bounds times) durations) (unless_fine (grid_with times durations))
+judge_even times durations e =
+    ap (λ b. if b then unless_outside (outside_from 1 (open_bounds times) durations) (unless_fine (grid_with times durations)) else Some (V02, length durations))
+    (even_test (length durations) (length (open_bounds times)) e)
 
-pub judge_outside : (steps : List PlainTimed) (durations : List Fraction) (n : ℕ) → length durations ≡ length (open_bounds steps) → Some n ≡ outside_from 1 (open_bounds steps) durations → judge_list steps durations ≡ Some (V03, n)
-judge_outside steps durations n e o =
-    judge_even steps durations e ∙ ap (λ o. unless_outside o (unless_fine (grid_with steps durations))) (sym o)
+pub judge_outside : (times : PlainTimes) (durations : List Fraction) (n : ℕ) → length durations ≡ length (open_bounds times) → Some n ≡ outside_from 1 (open_bounds times) durations → judge_list times durations ≡ Some (V03, n)
+judge_outside times durations n e o =
+    judge_even times durations e ∙ ap (λ o. unless_outside o (unless_fine (grid_with times durations))) (sym o)
 
-judge_inside : (steps : List PlainTimed) (durations : List Fraction) → length durations ≡ length (open_bounds steps) → None ≡ outside_from 1 (open_bounds steps) durations → judge_list steps durations ≡ unless_fine (grid_with steps durations)
-judge_inside steps durations e o =
-    judge_even steps durations e ∙ ap (λ o. unless_outside o (unless_fine (grid_with steps durations))) (sym o)
+judge_inside : (times : PlainTimes) (durations : List Fraction) → length durations ≡ length (open_bounds times) → None ≡ outside_from 1 (open_bounds times) durations → judge_list times durations ≡ unless_fine (grid_with times durations)
+judge_inside times durations e o =
+    judge_even times durations e ∙ ap (λ o. unless_outside o (unless_fine (grid_with times durations))) (sym o)
 
 fine_from : (n : ℕ) → None ≡ up_to 999999999 n → unless_fine n ≡ Some (V04, 0)
 fine_from n e = fine_above (beyond_is 999999999 n e)
@@ -206,15 +229,15 @@ fine_from n e = fine_above (beyond_is 999999999 n e)
 coarse_from : (n : ℕ) → n ≤ 999999999 → unless_fine n ≡ None
 coarse_from n h = grind (arith, nat_tests)
 
-pub judge_fine : (steps : List PlainTimed) (durations : List Fraction) → length durations ≡ length (open_bounds steps) → None ≡ outside_from 1 (open_bounds steps) durations → None ≡ up_to 999999999 (grid_with steps durations) → judge_list steps durations ≡ Some (V04, 0)
-judge_fine steps durations e o f = judge_inside steps durations e o ∙ fine_from (grid_with steps durations) f
+pub judge_fine : (times : PlainTimes) (durations : List Fraction) → length durations ≡ length (open_bounds times) → None ≡ outside_from 1 (open_bounds times) durations → None ≡ up_to 999999999 (grid_with times durations) → judge_list times durations ≡ Some (V04, 0)
+judge_fine times durations e o f = judge_inside times durations e o ∙ fine_from (grid_with times durations) f
 
-pub judge_fits : (steps : List PlainTimed) (durations : List Fraction) → length durations ≡ length (open_bounds steps) → None ≡ outside_from 1 (open_bounds steps) durations → grid_with steps durations ≤ 999999999 → judge_list steps durations ≡ None
-judge_fits steps durations e o f = judge_inside steps durations e o ∙ coarse_from (grid_with steps durations) f
+pub judge_fits : (times : PlainTimes) (durations : List Fraction) → length durations ≡ length (open_bounds times) → None ≡ outside_from 1 (open_bounds times) durations → grid_with times durations ≤ 999999999 → judge_list times durations ≡ None
+judge_fits times durations e o f = judge_inside times durations e o ∙ coarse_from (grid_with times durations) f
 
 -- lengths of what is viewed
-pub bounds_length : (bounds : List Bounds) (steps : List TimedStep) → map plain_bounds bounds ≡ open_bounds (map plain_timed steps) → length bounds ≡ length (open_bounds (map plain_timed steps))
-bounds_length bounds steps e = sym (length-map bounds plain_bounds) ∙ ap length e
+pub bounds_length : (bounds : List Bounds) (times : PlainTimes) → map plain_bounds bounds ≡ open_bounds times → length bounds ≡ length (open_bounds times)
+bounds_length bounds times e = sym (length-map bounds plain_bounds) ∙ ap length e
 
 pub durations_length : (durations : List Frac) → length (map value_of durations) ≡ length durations
 durations_length durations = length-map durations value_of

@@ -1,5 +1,5 @@
--- The base grid is the least one on which all steps lie, and finer grids keep moments.
-use Rattle.std.proofs.Common.{◌≡◌, ℕ, ◌+◌, ◌*◌, ◌/◌, ◌<◌, ◌&&◌, nat_lt, Bool, true, List, [], ◌∷◌, unsigned_abs, refl, sym, ap, ap₂, ◌∙◌, arith, mul-add, mul-div_cancel}
+-- The base grid is the least one on which all steps and events lie, and finer grids keep moments.
+use Rattle.std.proofs.Common.{◌≡◌, ℕ, ◌+◌, ◌*◌, ◌/◌, ◌<◌, ◌&&◌, nat_lt, Bool, true, List, [], ◌∷◌, flat_map, unsigned_abs, refl, sym, ap, ap₂, ◌∙◌, arith, mul-add, mul-div_cancel}
 use Rattle.std.specs.List.{list_all}
 use Prim.Native.Nat.{◌∣◌}
 use Rattle.std.proofs.lemmas.Bool.Decides.{nat_tests}
@@ -10,19 +10,23 @@ use Rattle.stp_frac.specs.Divisors.{divides}
 use Rattle.stp_frac.specs.Fractions.{Fraction}
 use Rattle.stp_frac.proofs.Divisors.{divides_to, left_true, right_true, lcm_least}
 use Rattle.stp_exec.specs.Held.{PlainHeld, Instant, Fixed, Open}
-use Rattle.stp_exec.specs.Timed.{PlainTimed, denominators, held_denominators, all_denominators, common_multiple, base_grid, count_of, ends_of, moments_between}
-use Rattle.stp_exec.specs.GridLaws.{is_proper, StepsLieOnTheBaseGrid, TheBaseGridIsLeast, finer, FinerGridsKeepMoments}
+use Rattle.stp_exec.specs.Timed.{PlainTimes, denominators, event_denominators, held_denominators, all_denominators, common_multiple, base_grid, count_of, ends_of, moments_between}
+use Rattle.stp_exec.specs.GridLaws.{are_proper, TimesLieOnTheBaseGrid, TheBaseGridIsLeast, finer, FinerGridsKeepMoments, FinerGridsKeepEvents}
 use Rattle.stp_exec.proofs.Multiples.{Positive, common_pos}
-use Rattle.stp_exec.proofs.TimedSteps.{denominators_lie}
+use Rattle.stp_exec.proofs.Joining.{denominators_lie}
 use Rattle.stp_exec.proofs.Bounds.{Lies, HeldLies, bottom_pos, first_lies, second_lies}
 
--- ---- the denominators of all steps
+-- ---- the denominators of all steps and events
 
-denominators_of_all : (p : ℕ → Bool) (steps : List PlainTimed) → list_all p (all_denominators steps) ≡ list_all (λ step. list_all p (denominators step)) steps
-denominators_of_all p [] = refl
-denominators_of_all p (step ∷ steps) =
-    list_all-append p (denominators step) (all_denominators steps)
-    ∙ ap (λ b. list_all p (denominators step) && b) (denominators_of_all p steps)
+all_of_each : {A : Type 0} (p : ℕ → Bool) (bottoms : A → List ℕ) (xs : List A) → list_all p (flat_map bottoms xs) ≡ list_all (λ x. list_all p (bottoms x)) xs
+all_of_each p bottoms [] = refl
+all_of_each p bottoms (x ∷ xs) =
+    list_all-append p (bottoms x) (flat_map bottoms xs) ∙ ap (λ b. list_all p (bottoms x) && b) (all_of_each p bottoms xs)
+
+denominators_of_all : (p : ℕ → Bool) (times : PlainTimes) → list_all p (all_denominators times) ≡ (list_all (λ step. list_all p (denominators step)) times.steps && list_all (λ e. list_all p (event_denominators e)) times.events)
+denominators_of_all p times =
+    list_all-append p (flat_map denominators times.steps) (flat_map event_denominators times.events)
+    ∙ ap₂ (λ a b. a && b) (all_of_each p denominators times.steps) (all_of_each p event_denominators times.events)
 
 above_none : (d : ℕ) → nat_lt 0 d ≡ true → 0 < d
 above_none d h = grind (arith, nat_tests)
@@ -31,15 +35,15 @@ positive_from : (ns : List ℕ) → list_all (λ d. nat_lt 0 d) ns ≡ true → 
 positive_from [] h = tt
 positive_from (n ∷ ns) h = (above_none n (left_true (nat_lt 0 n) (list_all (λ d. nat_lt 0 d) ns) h), positive_from ns (right_true (nat_lt 0 n) (list_all (λ d. nat_lt 0 d) ns) h))
 
-proper_positive : (steps : List PlainTimed) → list_all is_proper steps ≡ true → Positive (all_denominators steps)
-proper_positive steps h = positive_from (all_denominators steps) (denominators_of_all (λ d. nat_lt 0 d) steps ∙ h)
+proper_positive : (times : PlainTimes) → are_proper times ≡ true → Positive (all_denominators times)
+proper_positive times h = positive_from (all_denominators times) (denominators_of_all (λ d. nat_lt 0 d) times ∙ h)
 
 -- ---- the base grid
 
-pub steps_lie_on_the_base_grid : StepsLieOnTheBaseGrid
-steps_lie_on_the_base_grid steps h =
-    sym (denominators_of_all (λ d. divides d (base_grid steps)) steps)
-    ∙ denominators_lie (all_denominators steps) (base_grid steps) (proper_positive steps h) (dvd_refl (base_grid steps))
+pub times_lie_on_the_base_grid : TimesLieOnTheBaseGrid
+times_lie_on_the_base_grid times h =
+    sym (denominators_of_all (λ d. divides d (base_grid times)) times)
+    ∙ denominators_lie (all_denominators times) (base_grid times) (proper_positive times h) (dvd_refl (base_grid times))
 
 common_least : (ns : List ℕ) (g : ℕ) → Positive ns → list_all (λ d. divides d g) ns ≡ true → common_multiple ns ∣ g
 common_least [] g p h = one-dvd g
@@ -49,8 +53,8 @@ common_least (n ∷ ns) g p h =
     (common_least ns g p.1 (right_true (divides n g) (list_all (λ d. divides d g) ns) h))
 
 pub the_base_grid_is_least : TheBaseGridIsLeast
-the_base_grid_is_least steps g h l =
-    common_least (all_denominators steps) g (proper_positive steps h) (denominators_of_all (λ d. divides d g) steps ∙ l)
+the_base_grid_is_least times g h l =
+    common_least (all_denominators times) g (proper_positive times h) (denominators_of_all (λ d. divides d g) times ∙ l)
 
 -- ---- finer grids
 
@@ -84,3 +88,9 @@ finer_grids_keep_moments step k grid pg l =
     ends_finer k grid (count_of (k * grid) step.start) (count_of grid step.start) step.held pg
     (count_finer k grid step.start pg (left_true (divides step.start.bottom grid) (list_all (λ d. divides d grid) (held_denominators step.held)) l))
     (right_true (divides step.start.bottom grid) (list_all (λ d. divides d grid) (held_denominators step.held)) l)
+
+pub finer_grids_keep_events : FinerGridsKeepEvents
+finer_grids_keep_events e k grid pg l = (
+  count_finer k grid e.low pg (first_lies grid e.low (divides e.high.bottom grid && true) l),
+  count_finer k grid e.high pg (second_lies grid e.low e.high l),
+)

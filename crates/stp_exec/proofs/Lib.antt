@@ -1,4 +1,6 @@
 pub mod Multiples
+pub mod Joining
+pub mod Making
 pub mod TimedSteps
 pub mod Bounds
 pub mod Lawful
@@ -9,5 +11,6 @@ pub mod Fitting
 pub mod PlacedSteps
 pub mod ActionWords
 pub mod Stepping
+pub mod EventMoments
 pub mod Limits
 pub mod Boxing

@@ -6,11 +6,11 @@ use Rattle.std.proofs.lemmas.Bool.Decides.{nat_tests}
 use Rattle.std.proofs.lemmas.List.Elements.{All-nil, All-cons, All-head, All-tail, All-map}
 use Rattle.stp_frac.specs.Fractions.{up_to}
 use Rattle.stp_exec.specs.declared.timed_step.TimedStep.{TimedStep}
-use Rattle.stp_exec.specs.Timed.{PlainTimed, plain_timed, is_lawful_timed, base_grid, lies_on, is_too_late, late_from, first_too_late}
+use Rattle.stp_exec.specs.Timed.{PlainTimed, PlainTimes, plain_timed, is_lawful_timed, base_grid, lies_on, is_too_late, late_from, first_too_late}
 use Rattle.stp_exec.specs.declared.fault.ExecFault.TheVariants.{GridTooFine}
 use Rattle.stp_exec.specs.declared.placed.Placed.{Placed}
 use Rattle.stp_exec.specs.Times.{IsTimely}
-use Rattle.stp_exec.specs.Placed.{times_of}
+use Rattle.stp_exec.specs.Placed.{step_times}
 use Rattle.stp_exec.specs.Views.{plain_placed}
 use Rattle.stp_exec.specs.Boxed.{too_large, beyond}
 
@@ -19,7 +19,7 @@ use Rattle.stp_exec.specs.Boxed.{too_large, beyond}
 abbrev pub timed_of : List Placed → List TimedStep
 timed_of placed = map (λ (s : Placed). s.timed) placed
 
-pub times_are : (placed : List Placed) → map plain_timed (timed_of placed) ≡ times_of (map plain_placed placed)
+pub times_are : (placed : List Placed) → map plain_timed (timed_of placed) ≡ step_times (map plain_placed placed)
 times_are [] = refl
 times_are (s ∷ placed) = ap (λ l. plain_timed s.timed ∷ l) (times_are placed)
 
@@ -32,16 +32,16 @@ fine_if : (b : Bool) (n : ℕ) → None ≡ (if b then Some n else None) → b �
 fine_if true n e = cc
 fine_if false n e = refl
 
-pub fine_beyond : (times : List PlainTimed) → None ≡ up_to 999999999 (base_grid times) → beyond times ≡ Some GridTooFine
-fine_beyond times e = ap (λ b. if b then option_map too_large (first_too_late times) else Some GridTooFine) (fine_if (nat_le (base_grid times) 999999999) (base_grid times) e)
+pub fine_beyond : (times : PlainTimes) → None ≡ up_to 999999999 (base_grid times) → beyond times ≡ Some GridTooFine
+fine_beyond times e = ap (λ b. if b then option_map too_large (first_too_late times.steps) else Some GridTooFine) (fine_if (nat_le (base_grid times) 999999999) (base_grid times) e)
 
 is_coarse : (g n : ℕ) → g ≡ n → g ≤ 999999999 → nat_le n 999999999 ≡ true
 is_coarse g n e h = grind (arith, nat_tests)
 
-coarse_beyond : (times : List PlainTimed) (g : ℕ) → g ≡ base_grid times → g ≤ 999999999 → beyond times ≡ option_map too_large (first_too_late times)
-coarse_beyond times g e h = ap (λ b. if b then option_map too_large (first_too_late times) else Some GridTooFine) (is_coarse g (base_grid times) e h)
+coarse_beyond : (times : PlainTimes) (g : ℕ) → g ≡ base_grid times → g ≤ 999999999 → beyond times ≡ option_map too_large (first_too_late times.steps)
+coarse_beyond times g e h = ap (λ b. if b then option_map too_large (first_too_late times.steps) else Some GridTooFine) (is_coarse g (base_grid times) e h)
 
-pub none_beyond : (times : List PlainTimed) (g : ℕ) → g ≡ base_grid times → g ≤ 999999999 → None ≡ first_too_late times → beyond times ≡ None
+pub none_beyond : (times : PlainTimes) (g : ℕ) → g ≡ base_grid times → g ≤ 999999999 → None ≡ first_too_late times.steps → beyond times ≡ None
 none_beyond times g e h f = coarse_beyond times g e h ∙ ap (option_map too_large) (sym f)
 
 early_first : (b : Bool) (n : ℕ) (others : Option ℕ) → (if b then Some n else others) ≡ None → (b ≡ false) × (others ≡ None)
@@ -58,13 +58,13 @@ pub all_timely : (grid : ℕ) (times : List TimedStep) → All (λ step. lies_on
 all_timely grid times lies e = λ k d within. record { lies = lies k d within; early = early_all 1 times (sym e) k d within }
 
 -- the same of steps with these times
-placed_timely : (grid : ℕ) (placed : List Placed) → All (IsTimely grid) (times_of (map plain_placed placed)) → All (λ s. IsTimely grid (plain_timed s.timed)) placed
+placed_timely : (grid : ℕ) (placed : List Placed) → All (IsTimely grid) (step_times (map plain_placed placed)) → All (λ s. IsTimely grid (plain_timed s.timed)) placed
 placed_timely grid [] h = All-nil (λ (s : Placed). IsTimely grid (plain_timed s.timed))
 placed_timely grid (s ∷ placed) h =
     All-cons (λ (s : Placed). IsTimely grid (plain_timed s.timed)) s placed
-    (All-head (IsTimely grid) (plain_timed s.timed) (times_of (map plain_placed placed)) h)
-    (placed_timely grid placed (All-tail (IsTimely grid) (plain_timed s.timed) (times_of (map plain_placed placed)) h))
+    (All-head (IsTimely grid) (plain_timed s.timed) (step_times (map plain_placed placed)) h)
+    (placed_timely grid placed (All-tail (IsTimely grid) (plain_timed s.timed) (step_times (map plain_placed placed)) h))
 
-pub all_placed_timely : (grid : ℕ) (times : List TimedStep) (placed : List Placed) → map plain_timed times ≡ times_of (map plain_placed placed) → All (λ step. IsTimely grid (plain_timed step)) times → All (λ s. IsTimely grid (plain_timed s.timed)) placed
+pub all_placed_timely : (grid : ℕ) (times : List TimedStep) (placed : List Placed) → map plain_timed times ≡ step_times (map plain_placed placed) → All (λ step. IsTimely grid (plain_timed step)) times → All (λ s. IsTimely grid (plain_timed s.timed)) placed
 all_placed_timely grid times placed e h =
     placed_timely grid placed (subst (λ (l : List PlainTimed). All (IsTimely grid) l) e (All-map (IsTimely grid) plain_timed times h))

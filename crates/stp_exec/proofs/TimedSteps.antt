@@ -1,19 +1,23 @@
--- The denominators of the program's steps, and the grids on which they lie.
-use Rattle.std.proofs.Common.{◌≡◌, ℕ, ◌+◌, ◌<◌, ◌≤◌, true, List, [], ◌∷◌, ◌++◌, length, map, drop, get_or, Some, None, refl, sym, ap, ◌∙◌, subst, arith}
-use Rattle.std.specs.List.{list_all, All}
-use Rattle.std.proofs.lemmas.List.Elements.{All-nil, All-cons}
+-- The denominators of the program's steps and events, and the grids on which they lie.
+use Rattle.std.proofs.Common.{◌≡◌, ℕ, ◌<◌, ◌≤◌, true, List, map, flat_map, Option, Some, None, IfSome, sym, ap, ◌∙◌, subst, arith}
+use Rattle.std.specs.List.{All}
+use Rattle.std.proofs.lemmas.List.Elements.{All-map}
 use Prim.Native.Nat.{◌∣◌}
 use Rattle.std.proofs.lemmas.Nat.Gcd.{dvd_trans}
-use Rattle.std.proofs.lemmas.List.{drop_more, drop_all}
-use Rattle.stp_frac.specs.Divisors.{lcm, divides}
+use Rattle.stp_frac.specs.Divisors.{lcm}
 use Rattle.stp_frac.specs.Fractions.{up_to}
-use Rattle.stp_frac.proofs.Divisors.{divides_from, both_true, lcm_pos, lcm_multiple_left, lcm_multiple_right}
+use Rattle.stp_frac.proofs.Divisors.{lcm_multiple_left, lcm_multiple_right}
+use Rattle.stp_schema.specs.declared.timed.TimedFact.{TimedFact}
+use Rattle.stp_schema.specs.Timed.{PlainTimedFact, timed_fact_of, timed_facts_of}
 use Rattle.stp_exec.specs.declared.held.Held.{Held}
 use Rattle.stp_exec.specs.declared.held.Held.TheVariants.{Instant, Fixed, Open}
 use Rattle.stp_exec.specs.declared.timed_step.TimedStep.{TimedStep}
+use Rattle.stp_exec.specs.declared.times.Times.{Times}
 use Rattle.stp_exec.specs.Held.{plain_held}
-use Rattle.stp_exec.specs.Timed.{plain_timed, held_denominators, denominators, all_denominators, common_multiple, base_grid, lies_on}
-use Rattle.stp_exec.proofs.Multiples.{Positive, common_pos, common_append, lcm_one_left, lcm_one_right, within_is, beyond_is, beyond_from, lcm_above, lcm_assoc}
+use Rattle.stp_exec.specs.Timed.{plain_timed, held_denominators, denominators, event_denominators, all_denominators, base_grid, lies_on, event_lies_on}
+use Rattle.stp_exec.specs.TimeViews.{plain_times}
+use Rattle.stp_exec.proofs.Multiples.{Positive, common_pos, common_append, lcm_one_left, lcm_above, within_is, beyond_is, beyond_from}
+use Rattle.stp_exec.proofs.Joining.{append_positive, multiple, all_positive, multiple_pos, all_lie}
 
 -- ---- denominators are from 1 on
 
@@ -25,70 +29,69 @@ held_positive (Open low high) = (omega (arith, low.low), (omega (arith, high.low
 pub step_positive : (step : TimedStep) → Positive (denominators (plain_timed step))
 step_positive step = (omega (arith, step.start.low), held_positive step.held)
 
-pub append_positive : (ms ns : List ℕ) → Positive ms → Positive ns → Positive (ms ++ ns)
-append_positive [] ns p q = q
-append_positive (m ∷ ms) ns p q = (p.0, append_positive ms ns p.1 q)
+pub event_positive : (e : TimedFact) → Positive (event_denominators (timed_fact_of e))
+event_positive e = (omega (arith, e.low.low), (omega (arith, e.high.low), tt))
 
-pub steps_positive : (steps : List TimedStep) → Positive (all_denominators (map plain_timed steps))
-steps_positive [] = tt
-steps_positive (step ∷ steps) =
-    append_positive (denominators (plain_timed step)) (all_denominators (map plain_timed steps)) (step_positive step) (steps_positive steps)
+-- ---- the base grid
 
-pub base_pos : (steps : List TimedStep) → 0 < base_grid (map plain_timed steps)
-base_pos steps = common_pos (all_denominators (map plain_timed steps)) (steps_positive steps)
+abbrev pub steps_multiple : List TimedStep → ℕ
+steps_multiple steps = multiple denominators (map plain_timed steps)
 
--- ---- the base grid, one step at a time
+abbrev pub events_multiple : List TimedFact → ℕ
+events_multiple events = multiple event_denominators (timed_facts_of events)
 
-base_cons : (step : TimedStep) (steps : List TimedStep) → base_grid (map plain_timed (step ∷ steps)) ≡ lcm (common_multiple (denominators (plain_timed step))) (base_grid (map plain_timed steps))
-base_cons step steps =
-    common_append (denominators (plain_timed step)) (all_denominators (map plain_timed steps)) (step_positive step) (steps_positive steps)
+pub steps_pos : (steps : List TimedStep) → 0 < steps_multiple steps
+steps_pos steps = multiple_pos plain_timed denominators step_positive steps
 
-pub at_step : (steps : List TimedStep) (i : ℕ) (step : TimedStep) → i < length steps → get_or steps i step ≡ step → drop i steps ≡ step ∷ drop (i + 1) steps
-at_step steps i step h is = drop_more steps i step h ∙ ap (λ s. s ∷ drop (i + 1) steps) is
+pub events_pos : (events : List TimedFact) → 0 < events_multiple events
+events_pos events = multiple_pos timed_fact_of event_denominators event_positive events
 
--- what is joined so far, and what is left
-abbrev pub IsJoined : ℕ → ℕ → List TimedStep → Type 0
-IsJoined grid i steps = lcm grid (base_grid (map plain_timed (drop i steps))) ≡ base_grid (map plain_timed steps)
+pub base_pos : (times : Times) → 0 < base_grid (plain_times times)
+base_pos times =
+    common_pos (all_denominators (plain_times times))
+    (append_positive (flat_map denominators (map plain_timed times.steps.items)) (flat_map event_denominators (timed_facts_of times.events.now)) (all_positive plain_timed denominators step_positive times.steps.items) (all_positive timed_fact_of event_denominators event_positive times.events.now))
 
-pub joined_start : (steps : List TimedStep) → IsJoined 1 0 steps
-joined_start steps = lcm_one_left (base_grid (map plain_timed steps)) (base_pos steps)
+-- it is the multiple of the steps' and the events'
+pub base_is : (times : Times) → base_grid (plain_times times) ≡ lcm (steps_multiple times.steps.items) (events_multiple times.events.now)
+base_is times =
+    common_append (flat_map denominators (map plain_timed times.steps.items)) (flat_map event_denominators (timed_facts_of times.events.now))
+    (all_positive plain_timed denominators step_positive times.steps.items) (all_positive timed_fact_of event_denominators event_positive times.events.now)
 
-joined_at : (g i : ℕ) (step : TimedStep) (steps : List TimedStep) → 0 < g → i < length steps → get_or steps i step ≡ step → IsJoined g i steps → lcm (lcm g (common_multiple (denominators (plain_timed step)))) (base_grid (map plain_timed (drop (i + 1) steps))) ≡ base_grid (map plain_timed steps)
-joined_at g i step steps pg h is so_far =
-    lcm_assoc g (common_multiple (denominators (plain_timed step))) (base_grid (map plain_timed (drop (i + 1) steps))) pg (common_pos (denominators (plain_timed step)) (step_positive step)) (base_pos (drop (i + 1) steps))
-    ∙ ap (lcm g) (sym (base_cons step (drop (i + 1) steps)) ∙ ap (λ l. base_grid (map plain_timed l)) (sym (at_step steps i step h is)))
-    ∙ so_far
+-- a grid of the steps, and then of the events, is the base grid
+pub base_joined : (times : Times) (g : ℕ) → Some g ≡ up_to 999999999 (lcm 1 (steps_multiple times.steps.items)) → lcm g (events_multiple times.events.now) ≡ base_grid (plain_times times)
+base_joined times g e =
+    ap (λ n. lcm n (events_multiple times.events.now)) (within_is 999999999 (lcm 1 (steps_multiple times.steps.items)) g e ∙ lcm_one_left (steps_multiple times.steps.items) (steps_pos times.steps.items))
+    ∙ sym (base_is times)
 
-pub joined_more : (g k i : ℕ) (step : TimedStep) (steps : List TimedStep) → 0 < g → i < length steps → get_or steps i step ≡ step → Some k ≡ up_to 999999999 (lcm g (common_multiple (denominators (plain_timed step)))) → IsJoined g i steps → IsJoined k (i + 1) steps
-joined_more g k i step steps pg h is e so_far =
-    ap (λ k. lcm k (base_grid (map plain_timed (drop (i + 1) steps)))) (within_is 999999999 (lcm g (common_multiple (denominators (plain_timed step)))) k e)
-    ∙ joined_at g i step steps pg h is so_far
+-- where the steps have none, there is none
+pub base_beyond : (times : Times) → None ≡ up_to 999999999 (lcm 1 (steps_multiple times.steps.items)) → None ≡ up_to 999999999 (base_grid (plain_times times))
+base_beyond times e =
+    let steps : ℕ = steps_multiple times.steps.items in
+    let above : 999999999 < lcm 1 steps = beyond_is 999999999 (lcm 1 steps) e in
+    let same : lcm 1 steps ≡ steps = lcm_one_left steps (steps_pos times.steps.items) in
+    let more : steps ≤ lcm steps (events_multiple times.events.now) = lcm_above steps (events_multiple times.events.now) (steps_pos times.steps.items) (events_pos times.events.now) in
+    beyond_from 999999999 (base_grid (plain_times times)) (omega (arith, above, same, more, base_is times))
 
-pub joined_beyond : (g i : ℕ) (step : TimedStep) (steps : List TimedStep) → 0 < g → i < length steps → get_or steps i step ≡ step → None ≡ up_to 999999999 (lcm g (common_multiple (denominators (plain_timed step)))) → IsJoined g i steps → None ≡ up_to 999999999 (base_grid (map plain_timed steps))
-joined_beyond g i step steps pg h is e so_far =
-    let part : ℕ = common_multiple (denominators (plain_timed step)) in
-    let above : 999999999 < lcm g part = beyond_is 999999999 (lcm g part) e in
-    let more : lcm g part ≤ lcm (lcm g part) (base_grid (map plain_timed (drop (i + 1) steps))) = lcm_above (lcm g part) (base_grid (map plain_timed (drop (i + 1) steps))) (lcm_pos g part pg (common_pos (denominators (plain_timed step)) (step_positive step))) (base_pos (drop (i + 1) steps)) in
-    beyond_from 999999999 (base_grid (map plain_timed steps)) (omega (arith, above, more, joined_at g i step steps pg h is so_far))
+-- what is up to a limit, if anything, is the number itself
+pub if_within : (o : Option ℕ) (n : ℕ) (P : ℕ → Type 0) → o ≡ up_to 999999999 n → P n → IfSome o P
+if_within None n P e h = tt
+if_within (Some k) n P e h = subst P (sym (within_is 999999999 n k e)) h
 
-pub joined_all : (g i : ℕ) (steps : List TimedStep) → 0 < g → length steps ≤ i → IsJoined g i steps → g ≡ base_grid (map plain_timed steps)
-joined_all g i steps pg h so_far =
-    sym (lcm_one_right g pg) ∙ ap (λ l. lcm g (base_grid (map plain_timed l))) (sym (drop_all i steps h)) ∙ so_far
+-- ---- grids on which steps and events lie
 
--- ---- grids on which steps lie
+pub steps_lie : (times : Times) (g : ℕ) → base_grid (plain_times times) ∣ g → All (λ step. lies_on g (plain_timed step) ≡ true) times.steps.items
+steps_lie times g h =
+    let steps : ℕ = steps_multiple times.steps.items in
+    let events : ℕ = events_multiple times.events.now in
+    let whole : lcm steps events ∣ g = subst (λ n. n ∣ g) (base_is times) h in
+    all_lie plain_timed denominators step_positive times.steps.items g
+    (dvd_trans steps (lcm_multiple_left steps events (steps_pos times.steps.items) (events_pos times.events.now)) whole)
 
-pub denominators_lie : (ns : List ℕ) (g : ℕ) → Positive ns → common_multiple ns ∣ g → list_all (λ d. divides d g) ns ≡ true
-denominators_lie [] g p h = refl
-denominators_lie (n ∷ ns) g p h =
-    both_true (divides n g) (list_all (λ d. divides d g) ns)
-    (divides_from n g (dvd_trans n (lcm_multiple_left n (common_multiple ns) p.0 (common_pos ns p.1)) h))
-    (denominators_lie ns g p.1 (dvd_trans (common_multiple ns) (lcm_multiple_right n (common_multiple ns) p.0 (common_pos ns p.1)) h))
-
-pub steps_lie : (steps : List TimedStep) (g : ℕ) → base_grid (map plain_timed steps) ∣ g → All (λ step. lies_on g (plain_timed step) ≡ true) steps
-steps_lie [] g h = All-nil (λ step. lies_on g (plain_timed step) ≡ true)
-steps_lie (step ∷ steps) g h =
-    let one : 0 < common_multiple (denominators (plain_timed step)) = common_pos (denominators (plain_timed step)) (step_positive step) in
-    let whole : lcm (common_multiple (denominators (plain_timed step))) (base_grid (map plain_timed steps)) ∣ g = subst (λ n. n ∣ g) (base_cons step steps) h in
-    All-cons (λ step. lies_on g (plain_timed step) ≡ true) step steps
-    (denominators_lie (denominators (plain_timed step)) g (step_positive step) (dvd_trans (common_multiple (denominators (plain_timed step))) (lcm_multiple_left (common_multiple (denominators (plain_timed step))) (base_grid (map plain_timed steps)) one (base_pos steps)) whole))
-    (steps_lie steps g (dvd_trans (base_grid (map plain_timed steps)) (lcm_multiple_right (common_multiple (denominators (plain_timed step))) (base_grid (map plain_timed steps)) one (base_pos steps)) whole))
+pub events_lie : (times : Times) (g : ℕ) → base_grid (plain_times times) ∣ g → All (λ e. event_lies_on g e ≡ true) (timed_facts_of times.events.now)
+events_lie times g h =
+    let steps : ℕ = steps_multiple times.steps.items in
+    let events : ℕ = events_multiple times.events.now in
+    let whole : lcm steps events ∣ g = subst (λ n. n ∣ g) (base_is times) h in
+    All-map (λ (e : PlainTimedFact). event_lies_on g e ≡ true) timed_fact_of times.events.now
+    (all_lie timed_fact_of event_denominators event_positive times.events.now g
+    (dvd_trans events (lcm_multiple_right steps events (steps_pos times.steps.items) (events_pos times.events.now)) whole))

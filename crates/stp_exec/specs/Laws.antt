@@ -1,5 +1,5 @@
 -- Laws of plans that are placed.
-use Rattle.std.specs.Prelude.{◌≡◌, true, false, List, All, Ok}
+use Rattle.std.specs.Prelude.{◌≡◌, ℕ, true, false, List, All, Ok}
 use Rattle.stp_frac.specs.Fractions.{is_below_zero}
 use Rattle.stp_schema.specs.Views.{PlainProblem}
 use Rattle.stp_plan.specs.Steps.{PlainStep}
@@ -13,8 +13,8 @@ PlacedStepsArePlans = (p : PlainProblem) (plan : List PlainStep) (placed : List 
 
 -- steps with the same name and arguments are of one action
 abbrev pub SameWordsAreOneAction : Type 0
-SameWordsAreOneAction = (p : PlainProblem) (s t : PlainStep) (x y : PlainPlaced) → placed_step p s ≡ Ok x → placed_step p t ≡ Ok y → s.name ≡ t.name → s.args ≡ t.args → is_one_action x y ≡ true
+SameWordsAreOneAction = (p : PlainProblem) (i j : ℕ) (s t : PlainStep) (x y : PlainPlaced) → placed_step i p s ≡ Ok x → placed_step j p t ≡ Ok y → s.name ≡ t.name → s.args ≡ t.args → is_one_action x y ≡ true
 
 -- and steps of one action have the same name and arguments
 abbrev pub OneActionHasSameWords : Type 0
-OneActionHasSameWords = (p : PlainProblem) (s t : PlainStep) (x y : PlainPlaced) → placed_step p s ≡ Ok x → placed_step p t ≡ Ok y → is_one_action x y ≡ true → (s.name ≡ t.name) × (s.args ≡ t.args)
+OneActionHasSameWords = (p : PlainProblem) (i j : ℕ) (s t : PlainStep) (x y : PlainPlaced) → placed_step i p s ≡ Ok x → placed_step j p t ≡ Ok y → is_one_action x y ≡ true → (s.name ≡ t.name) × (s.args ≡ t.args)

@@ -1,5 +1,6 @@
 pub mod Held
 pub mod Timed
+pub mod TimeViews
 pub mod Lists
 pub mod Fitting
 pub mod GridLaws

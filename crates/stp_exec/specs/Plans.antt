@@ -3,6 +3,7 @@ use Rattle.std.specs.Prelude.{◌≡◌, ℕ, ◌+◌, ◌==◌, ◌<◌, unsign
 use Rattle.std.specs.List.{position_or_len}
 use Rattle.stp_frac.specs.Divisors.{gcd}
 use Rattle.stp_frac.specs.Fractions.{Fraction, is_below_zero}
+use Rattle.stp_schema.specs.Timed.{PlainTimedFact, is_chosen}
 use Rattle.stp_schema.specs.Views.{PlainProblem}
 use Rattle.stp_tables.specs.Atoms.{Atom}
 use Rattle.stp_cond.specs.Atoms.{PlainEvent}
@@ -10,12 +11,13 @@ use Rattle.stp_cond.specs.Truth.{state_of_row}
 use Rattle.stp_cond.specs.Formulas.{Formula, holds_in}
 use Rattle.stp_task.specs.Actions.{PlainAction, PlainHappening}
 use Rattle.stp_instance.specs.Numbered.{with_atoms}
-use Rattle.stp_ground.specs.Problems.{is_fact, goal_of, initial_atoms, goal_atoms}
+use Rattle.stp_ground.specs.Problems.{is_fact, goal_of, initial_atoms, event_atoms, goal_atoms}
 use Rattle.stp_ground.specs.Chosen.{PlainChosen, chosen_by}
-use Rattle.stp_ground.specs.Ground.{atoms_of_chosen, left_of, action_by}
+use Rattle.stp_ground.specs.Ground.{atoms_of_chosen, left_of, action_by, event_by}
 use Rattle.stp_exec.specs.declared.moments.Moments.{Moments}
 use Rattle.stp_exec.specs.Held.{PlainHeld, Instant, Fixed, Open}
-use Rattle.stp_exec.specs.Timed.{PlainTimed, base_grid, moments_of}
+use Rattle.stp_exec.specs.Timed.{PlainTimed, base_grid, count_of, moments_of}
+use Rattle.stp_happen.specs.Owners as environment
 use Rattle.stp_happen.specs.Owners.{PlainStep, owners_of}
 use Rattle.stp_happen.specs.Boxes.{PlainBox, IsStrong}
 use Rattle.stp_exec.specs.Times.{is_open, fits}
@@ -59,10 +61,10 @@ IsPlan p steps = All (IsStepOf p) steps
 abbrev pub atoms_of_steps : PlainProblem → List PlainPlaced → List Atom
 atoms_of_steps p steps = flat_map (λ (s : PlainPlaced). atoms_of_chosen p s.chosen) steps
 
--- the atoms of a plan in the order in which they are numbered: what is true at first, the goal, and then the
--- steps
+-- the atoms of a plan in the order in which they are numbered: what is true at first, the events of the environment,
+-- the goal, and then the steps
 abbrev pub atoms_of_plan : PlainProblem → List PlainPlaced → List Atom
-atoms_of_plan p steps = with_atoms (with_atoms (with_atoms [] (initial_atoms p)) (goal_atoms p)) (atoms_of_steps p steps)
+atoms_of_plan p steps = with_atoms (with_atoms (with_atoms (with_atoms [] (initial_atoms p)) (event_atoms p)) (goal_atoms p)) (atoms_of_steps p steps)
 
 -- what a formula says of a state
 abbrev pub meaning : Formula → (ℕ → Bool) → Bool
@@ -96,10 +98,19 @@ step_with moments uncertain key action = record {
 abbrev pub step_in : PlainProblem → List Atom → ℕ → List PlainPlaced → PlainPlaced → PlainStep
 step_in p table grid steps s = step_with (moments_of grid s.timed) (is_open s.timed.held) (key_in steps s) (action_by p table s.chosen)
 
--- the box of steps on a grid, over a table of atoms
+-- an event of the environment on a grid, over a table of atoms; its moment is uncertain where its bounds differ
+abbrev pub timed_in : List Atom → ℕ → PlainTimedFact → environment.PlainTimed
+timed_in table grid e = record {
+  low = count_of grid e.low;
+  high = count_of grid e.high;
+  uncertain = is_chosen e;
+  event = event_in (event_by table e);
+}
+
+-- the box of steps on a grid, over a table of atoms, with the events of the problem
 abbrev pub box_over : PlainProblem → List Atom → ℕ → List PlainPlaced → PlainBox
 box_over p table grid steps = record {
-  owners = owners_of (map (step_in p table grid steps) steps) [];
+  owners = owners_of (map (step_in p table grid steps) steps) (map (timed_in table grid) p.timed);
   initial = state_of_row (map (is_fact p) table);
   goal = meaning (left_of p table (goal_of p));
 }
@@ -108,13 +119,14 @@ box_over p table grid steps = record {
 abbrev pub box_on : ℕ → PlainProblem → List PlainPlaced → PlainBox
 box_on grid p steps = box_over p (atoms_of_plan p steps) grid steps
 
--- the least grid on which all starts and durations lie
-abbrev pub grid_of_plan : List PlainPlaced → ℕ
-grid_of_plan steps = base_grid (times_of steps)
+-- the least grid on which all starts and durations lie, and all bounds of the events
+abbrev pub grid_of_plan : PlainProblem → List PlainPlaced → ℕ
+grid_of_plan p steps = base_grid (times_of p steps)
 
 abbrev pub box_of_plan : PlainProblem → List PlainPlaced → PlainBox
-box_of_plan p steps = box_on (grid_of_plan steps) p steps
+box_of_plan p steps = box_on (grid_of_plan p steps) p steps
 
--- A plan is strong where its box is: on every finer grid and for every choice of the uncertain durations the run executes.
+-- A plan is strong where its box is: on every finer grid and for every choice of the uncertain durations and of the
+-- moments of events the run executes.
 abbrev pub IsStrongPlan : PlainProblem → List PlainPlaced → Type 0
 IsStrongPlan p steps = IsStrong (box_of_plan p steps)

@@ -1,9 +1,10 @@
--- Steps in time, and the grid on which they lie.
-use Rattle.std.specs.Prelude.{ℕ, ◌+◌, ◌*◌, ◌/◌, unsigned_abs, nat_lt, Bool, ◌&&◌, ◌||◌, not, if◌then◌else◌, List, [], ◌∷◌, ◌++◌, Option, Some, None}
+-- Steps and events of the environment in time, and the grid on which they lie.
+use Rattle.std.specs.Prelude.{ℕ, ◌+◌, ◌*◌, ◌/◌, unsigned_abs, nat_lt, Bool, ◌&&◌, ◌||◌, not, if◌then◌else◌, List, [], ◌∷◌, ◌++◌, flat_map, Option, Some, None}
 use Rattle.std.specs.List.{list_all}
 use Rattle.stp_base.specs.declared.limits.TheConstants.{MAX_TIME}
 use Rattle.stp_frac.specs.Divisors.{divides, lcm}
 use Rattle.stp_frac.specs.Fractions.{Fraction, value_of, is_below_zero, zero}
+use Rattle.stp_schema.specs.Timed.{PlainTimedFact}
 use Rattle.stp_exec.specs.declared.timed_step.TimedStep.{TimedStep}
 use Rattle.stp_exec.specs.declared.moments.Moments.{Moments}
 use Rattle.stp_exec.specs.Held.{PlainHeld, Instant, Fixed, Open, plain_held, is_lawful_held}
@@ -20,6 +21,11 @@ plain_timed step = record { start = value_of step.start; held = plain_held step.
 abbrev pub is_lawful_timed : PlainTimed → Bool
 is_lawful_timed step = not (is_below_zero step.start.top) && is_lawful_held step.held
 
+-- when the steps of a plan start and how long they last, and when the events of the environment come
+pub record PlainTimes : Type 0 where
+  pub steps : List PlainTimed
+  pub events : List PlainTimedFact
+
 -- ---- the base grid
 
 abbrev pub held_denominators : PlainHeld → List ℕ
@@ -31,10 +37,13 @@ held_denominators (Open low high) = low.bottom ∷ high.bottom ∷ []
 abbrev pub denominators : PlainTimed → List ℕ
 denominators step = step.start.bottom ∷ held_denominators step.held
 
--- those of all steps
-abbrev pub all_denominators : List PlainTimed → List ℕ
-all_denominators [] = []
-all_denominators (step ∷ steps) = denominators step ++ all_denominators steps
+-- those of both bounds of an event
+abbrev pub event_denominators : PlainTimedFact → List ℕ
+event_denominators e = e.low.bottom ∷ e.high.bottom ∷ []
+
+-- those of all steps and events
+abbrev pub all_denominators : PlainTimes → List ℕ
+all_denominators times = flat_map denominators times.steps ++ flat_map event_denominators times.events
 
 -- the least common multiple of numbers from 1 on; 1 where there are none
 abbrev pub common_multiple : List ℕ → ℕ
@@ -42,12 +51,16 @@ common_multiple [] = 1
 common_multiple (n ∷ ns) = lcm n (common_multiple ns)
 
 -- the number of moments in a unit of time
-abbrev pub base_grid : List PlainTimed → ℕ
-base_grid steps = common_multiple (all_denominators steps)
+abbrev pub base_grid : PlainTimes → ℕ
+base_grid times = common_multiple (all_denominators times)
 
 -- whether a step lies on a grid
 abbrev pub lies_on : ℕ → PlainTimed → Bool
 lies_on grid step = list_all (λ d. divides d grid) (denominators step)
+
+-- whether an event does
+abbrev pub event_lies_on : ℕ → PlainTimedFact → Bool
+event_lies_on grid e = list_all (λ d. divides d grid) (event_denominators e)
 
 -- ---- moments
 

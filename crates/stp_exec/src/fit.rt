@@ -1,37 +1,42 @@
-//! Durations that are chosen for the steps that stay open.
+//! Durations that are chosen for the steps that stay open, and moments for the events that do.
 
-ghost use Rattle.std.specs.Prelude.{◌≡◌, ◌≢◌, ◌≤◌, ◌<◌, ◌^◌, ◌++◌, true, false, Some, None, length, map, option_map, All, IfOk, IfErr, IfSome, OnOk};
+ghost use Rattle.std.specs.Prelude.{◌≡◌, ◌≢◌, ◌≤◌, ◌<◌, ◌^◌, ◌++◌, true, false, Some, None, length, map, flat_map, option_map, All, IfOk, IfErr, IfSome, OnOk};
 ghost use Rattle.stp_base.specs.declared.limits.TheConstants.{MAX_GRID};
 ghost use Rattle.stp_frac.specs.Divisors.{lcm, divides};
 ghost use Rattle.stp_frac.specs.Fractions.{value_of, is_below_zero, up_to};
 ghost use Rattle.stp_exec.specs.Held.{plain_held};
-ghost use Rattle.stp_exec.specs.Timed.{plain_timed, is_lawful_timed, common_multiple, base_grid, count_of};
-ghost use Rattle.stp_exec.specs.Fitting.{plain_bounds, held_bounds, open_bounds, outside_from, bottoms, grid_with, judge_list, refusal_of};
+ghost use Rattle.stp_schema.specs.Timed.{timed_fact_of, timed_facts_of};
+ghost use Rattle.stp_exec.specs.Timed.{plain_timed, common_multiple, base_grid, count_of};
+ghost use Rattle.stp_exec.specs.TimeViews.{plain_times};
+ghost use Rattle.stp_exec.specs.Fitting.{plain_bounds, held_bounds, step_bounds, event_bounds, open_bounds, outside_from, bottoms, grid_with, judge_list, refusal_of};
 
+use crate::events::is_chosen;
 use crate::grid::join;
 use crate::held::{Held, is_within};
 use crate::moments::count;
 use crate::timed_step::TimedStep;
+use crate::times::Times;
 use std::alloc::Global;
 use stp_base::{List, Memory};
 use stp_frac::Frac;
 use stp_refusal::{Code, ReadFault};
+use stp_schema::TimedFact;
 
-/// The bounds of a step that stays open.
+/// The bounds of a step or an event that stays open.
 #[derive(Clone, Copy)]
 pub(crate) struct Bounds {
-    /// The least duration.
+    /// The least duration, or the first moment.
     low: Frac,
-    /// The greatest duration.
+    /// The greatest duration, or the last moment.
     high: Frac,
 }
 
-/// Durations as whole numbers of moments on a grid.
+/// Durations and moments as whole numbers on a grid.
 #[derive(Drop)]
 pub struct Fitted {
     /// The moments in a unit of time.
     pub grid: u128,
-    /// The durations in order.
+    /// The durations in order, and then the moments of events.
     pub durations: List<u128>,
 }
 
@@ -46,14 +51,46 @@ fn push_bounds(bounds: &mut List<Bounds>, held: Held) -> Result<(), Memory>
     }
 }
 
-/// The bounds of the steps that stay open, in order.
-fn bounds_of(alloc: Global, steps: &[TimedStep]) -> Result<List<Bounds>, Memory>
-    ensures { IfOk result (λ bounds. map plain_bounds bounds ≡ open_bounds (map plain_timed steps.now)) }
+/// Puts the bounds of the steps that stay open at the end of a list, in order.
+fn push_steps(bounds: &mut List<Bounds>, steps: &[TimedStep]) -> Result<(), Memory>
+    ensures { OnOk result (map plain_bounds bounds.new ≡ map plain_bounds bounds.old ++ flat_map step_bounds (map plain_timed steps.now)) }
+{
+    for step in steps {
+        push_bounds(bounds, step.held)?;
+    }
+    Ok(())
+}
+
+/// Puts the bounds of an event at the end of a list, if it stays open.
+fn push_event(bounds: &mut List<Bounds>, event: &TimedFact<'_>) -> Result<(), Memory>
+    ensures { OnOk result (map plain_bounds bounds.new ≡ map plain_bounds bounds.old ++ event_bounds (timed_fact_of event.now)) }
+{
+    if !is_chosen(event) {
+        return Ok(());
+    }
+    bounds.push(Bounds {
+        low: event.low,
+        high: event.high,
+    })
+}
+
+/// Puts the bounds of the events that stay open at the end of a list, in order.
+fn push_events(bounds: &mut List<Bounds>, events: &[TimedFact<'_>]) -> Result<(), Memory>
+    ensures { OnOk result (map plain_bounds bounds.new ≡ map plain_bounds bounds.old ++ flat_map event_bounds (timed_facts_of events.now)) }
+{
+    for event in events {
+        push_event(bounds, event)?;
+    }
+    Ok(())
+}
+
+/// The bounds of the steps that stay open, in order, and then those of the events that do.
+fn bounds_of(alloc: Global, times: &Times<'_>) -> Result<List<Bounds>, Memory>
+    ensures { IfOk result (λ bounds. map plain_bounds bounds ≡ open_bounds (plain_times times.now)) }
 {
     let mut bounds = List::new(alloc);
-    for step in steps {
-        push_bounds(&mut bounds, step.held)?;
-    }
+    push_steps(&mut bounds, &times.steps)?;
+    push_events(&mut bounds, times.events)?;
     Ok(bounds)
 }
 
@@ -105,25 +142,24 @@ fn counts(alloc: Global, grid: u128, durations: &[Frac]) -> Result<List<u128>, M
     Ok(counts)
 }
 
-/// Durations for the steps that stay open, on the least grid on which they lie with the plan, whose grid is given; or
-/// why they are refused: V02 where there are more or fewer, V03 for the first that is not within its bounds, and V04
-/// where the grid is too fine.
+/// Durations for the steps that stay open, and then moments for the events that do, on the least grid on which they lie
+/// with the plan, whose grid is given; or why they are refused: V02 where there are more or fewer, V03 for the first that
+/// is not within its bounds, and V04 where the grid is too fine.
 pub fn fit_durations(
     alloc: Global,
     grid: u128,
-    steps: &[TimedStep],
+    times: &Times<'_>,
     durations: &[Frac],
 ) -> Result<Fitted, ReadFault>
-    requires base { grid ≡ base_grid (map plain_timed steps.now) }
+    requires base { grid ≡ base_grid (plain_times times.now) }
     requires high { grid ≤ MAX_GRID }
     requires few { length durations.now < 2 ^ 32 }
-    requires lawful { All (λ step. is_lawful_timed (plain_timed step) ≡ true) steps.now }
-    ensures judged { IfOk result (λ _. judge_list (map plain_timed steps.now) (map value_of durations.now) ≡ None) }
-    ensures grid { IfOk result (λ fitted. fitted.grid ≡ grid_with (map plain_timed steps.now) (map value_of durations.now)) }
+    ensures judged { IfOk result (λ _. judge_list (plain_times times.now) (map value_of durations.now) ≡ None) }
+    ensures grid { IfOk result (λ fitted. fitted.grid ≡ grid_with (plain_times times.now) (map value_of durations.now)) }
     ensures durations { IfOk result (λ fitted. fitted.durations ≡ map (count_of fitted.grid) (map value_of durations.now)) }
-    ensures refused { IfErr result (λ fault. fault ≢ ReadFault.Memory → judge_list (map plain_timed steps.now) (map value_of durations.now) ≡ refusal_of fault) }
+    ensures refused { IfErr result (λ fault. fault ≢ ReadFault.Memory → judge_list (plain_times times.now) (map value_of durations.now) ≡ refusal_of fault) }
 {
-    let bounds = bounds_of(alloc, steps)?;
+    let bounds = bounds_of(alloc, times)?;
     if durations.len() != bounds.as_slice().len() {
         return Err(ReadFault::Refused {
             code: Code::V02,

@@ -1,7 +1,10 @@
-//! Plans of a problem: what brackets say, the base grid, the moments of steps, lists of durations, and a plan's box.
+//! Plans of a problem: what brackets say, the base grid, the moments of steps, lists of durations, and a plan's box with
+//! the events of the environment.
 #![tactic(auto)]
 
+pub mod boxed_plan;
 pub mod boxes;
+mod events;
 pub mod fault;
 pub mod fit;
 pub mod grid;
@@ -17,7 +20,9 @@ pub mod placing;
 mod steps;
 pub mod timed_step;
 pub mod times;
+mod timing;
 
+pub use boxed_plan::BoxedPlan;
 pub use boxes::{box_of, box_placed};
 pub use fault::ExecFault;
 pub use fit::{Fitted, fit_durations};
@@ -29,4 +34,4 @@ pub use moments::{Moments, moments_on};
 pub use placed::Placed;
 pub use placing::place;
 pub use timed_step::TimedStep;
-pub use times::timed;
+pub use times::Times;

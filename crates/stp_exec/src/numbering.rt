@@ -10,7 +10,7 @@ use crate::placed::Placed;
 use bumpalo::Bump;
 use std::alloc::Global;
 use stp_base::Memory;
-use stp_ground::{World, number_chosen, number_goal, number_initial};
+use stp_ground::{World, number_chosen, number_events, number_goal, number_initial};
 use stp_tables::AtomTable;
 
 /// Numbers the fluent atoms of steps in their order.
@@ -27,7 +27,7 @@ fn number_steps(
     Ok(())
 }
 
-/// The fluent atoms of a plan: what is true at first, then the goal, and then the steps.
+/// The fluent atoms of a plan: what is true at first, then the events of the environment, the goal, and the steps.
 pub(crate) fn number_plan<'a>(
     alloc: Global,
     arena: &'a Bump,
@@ -39,6 +39,7 @@ pub(crate) fn number_plan<'a>(
 {
     let mut table = AtomTable::new(alloc);
     number_initial(world, &mut table)?;
+    number_events(world, &mut table)?;
     number_goal(alloc, arena, world, &mut table)?;
     number_steps(world, &mut table, placed)?;
     Ok(table)

@@ -1,12 +1,11 @@
 //! Putting the steps of a plan in their places.
 
-ghost use Rattle.std.specs.Prelude.{◌≡◌, ◌≢◌, ◌≤◌, false, length, map, IfOk, MatchResult, Ok, Err};
+ghost use Rattle.std.specs.Prelude.{◌≡◌, ◌≢◌, ◌≤◌, false, length, map, All, IfOk, MatchResult, Ok, Err};
 ghost use Rattle.stp_base.specs.declared.limits.TheConstants.{MAX_STEPS};
 ghost use Rattle.stp_frac.specs.Fractions.{value_of, is_below_zero};
-ghost use Rattle.stp_plan.specs.Laws.{IsAbove, IsLawfulPlan};
 ghost use Rattle.stp_plan.specs.Views.{plain_step, plain_plan};
 ghost use Rattle.stp_ground.specs.Worlds.{problem_in};
-ghost use Rattle.stp_exec.specs.Faults.{code_of, at_step};
+ghost use Rattle.stp_exec.specs.Faults.{choice_fault};
 ghost use Rattle.stp_exec.specs.Placed.{placed_step, placed_from};
 ghost use Rattle.stp_exec.specs.Plans.{IsPlan};
 ghost use Rattle.stp_exec.specs.Views.{plain_placed};
@@ -23,8 +22,7 @@ use stp_refusal::Code;
 
 /// The refusal of a step whose name and arguments choose nothing.
 fn not_chosen(number: StepId, fault: InstanceFault) -> ExecFault
-    ensures memory { fault ≡ InstanceFault.Memory → result ≡ ExecFault.Memory }
-    ensures refused { fault ≢ InstanceFault.Memory → result ≡ ExecFault.Step number (code_of fault) }
+    ensures { result ≡ choice_fault number fault }
 {
     match fault {
         InstanceFault::UnknownAction => ExecFault::Step(number, Code::X01),
@@ -46,8 +44,8 @@ fn place_step<'a>(
 ) -> Result<Placed<'a>, ExecFault>
     requires { is_below_zero (value_of step.now.at).top ≡ false }
     ensures placed { MatchResult result
-        (λ r. at_step number.0 (placed_step (problem_in world.old) (plain_step step.now)) ≡ Ok (plain_placed r))
-        (λ fault. fault ≢ ExecFault.Memory → at_step number.0 (placed_step (problem_in world.old) (plain_step step.now)) ≡ Err fault) }
+        (λ r. placed_step number.0 (problem_in world.old) (plain_step step.now) ≡ Ok (plain_placed r))
+        (λ fault. fault ≢ ExecFault.Memory → placed_step number.0 (problem_in world.old) (plain_step step.now) ≡ Err fault) }
     ensures same { problem_in world.new ≡ problem_in world.old }
 {
     let chosen = match choose(alloc, arena, world, step.name.as_slice(), &step.args) {
@@ -75,7 +73,8 @@ pub fn place<'a>(
     world: &mut World<'a>,
     plan: &Plan,
 ) -> Result<List<Placed<'a>>, ExecFault>
-    requires { IsLawfulPlan IsAbove (plain_plan plan.now) }
+    requires few { length (plain_plan plan.now) ≤ MAX_STEPS }
+    requires starts { All (λ s. is_below_zero s.at.top ≡ false) (plain_plan plan.now) }
     ensures placed { MatchResult result
         (λ r. placed_from 1 (problem_in world.old) (plain_plan plan.now) ≡ Ok (map plain_placed r))
         (λ fault. fault ≢ ExecFault.Memory → placed_from 1 (problem_in world.old) (plain_plan plan.now) ≡ Err fault) }

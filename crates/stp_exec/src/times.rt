@@ -1,24 +1,17 @@
-//! The times of steps.
+//! The times of plans.
 
-ghost use Rattle.std.specs.Prelude.{◌≡◌, true, length, map, All, IfOk};
+ghost use Rattle.std.specs.Prelude.{◌≡◌, true, All};
+ghost use Rattle.stp_schema.specs.Timed.{AreTimedFacts, timed_facts_of};
 ghost use Rattle.stp_exec.specs.Timed.{plain_timed, is_lawful_timed};
-ghost use Rattle.stp_exec.specs.Placed.{times_of};
-ghost use Rattle.stp_exec.specs.Views.{plain_placed};
 
 use crate::TimedStep;
-use crate::placed::Placed;
-use std::alloc::Global;
-use stp_base::Memory;
+use stp_schema::TimedFact;
 
-/// When steps start, and how long they last.
-pub fn timed(alloc: Global, placed: &[Placed<'_>]) -> Result<Vec<TimedStep>, Memory>
-    ensures times { IfOk result (λ r. map plain_timed r.items ≡ times_of (map plain_placed placed.now)) }
-    ensures count { IfOk result (λ r. length r.items ≡ length placed.now) }
-    ensures lawful { IfOk result (λ r. All (λ step. is_lawful_timed (plain_timed step) ≡ true) r.items) }
-{
-    let mut times = Vec::new(alloc);
-    for step in placed {
-        times.push(step.timed)?;
-    }
-    Ok(times)
+/// When the steps of a plan start and how long they last, and when the events of the environment come.
+#[derive(Drop)]
+pub struct Times<'a> {
+    pub steps: Vec<TimedStep>,
+    pub events: &'a [TimedFact<'a>],
+    pub ghost lawful: { All (λ step. is_lawful_timed (plain_timed step) ≡ true) steps.items },
+    pub ghost kept: { AreTimedFacts (timed_facts_of events.now) },
 }

@@ -2,6 +2,7 @@
 use Rattle.std.specs.Prelude.{◌≡◌, ℕ, ◌*◌, ◌^◌, ◌<◌, ◌≤◌, ℤ, pos, ◌*ℤ◌, unsigned_abs, true, List, ◌∷◌, ◌++◌, Some, IfSome, Ok, ◌↔◌}
 use Rattle.std.specs.Ordering.{nat_cmp}
 use Prim.Native.Nat.{◌∣◌}
+use Rattle.stp_base.specs.declared.limits.TheConstants.{MAX_GRID, MAX_TIME}
 use Rattle.stp_frac.specs.Divisors.{gcd, lcm}
 use Rattle.stp_frac.specs.Fractions.{Fraction, lowest, on_grid_of, order_of}
 use Rattle.stp_frac.specs.Reading.{Spelling, is_group, spelling_of, number_of, text_of}
@@ -74,9 +75,9 @@ FoundSpellingsAreTheTexts = (bs : List ℕ) → IfSome (spelling_of bs) (λ s. I
 -- a fraction in lowest terms whose text keeps the limits of digits
 pub record CanBeSpelled (f : Fraction) : Type 0 where
   pub low : 1 ≤ f.bottom
-  pub high : f.bottom ≤ 999999999
+  pub high : f.bottom ≤ MAX_GRID
   pub size : unsigned_abs f.top < 10 ^ 18
-  pub whole : f.bottom ≡ 1 → unsigned_abs f.top ≤ 999999999
+  pub whole : f.bottom ≡ 1 → unsigned_abs f.top ≤ MAX_TIME
   pub lowest : gcd (unsigned_abs f.top) f.bottom ≡ 1
 
 abbrev pub PrintedNumbersAreReadAgain : Type 0

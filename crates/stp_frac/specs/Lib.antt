@@ -1,5 +1,4 @@
 pub mod Divisors
 pub mod Fractions
 pub mod Reading
-pub mod Units
 pub mod Laws

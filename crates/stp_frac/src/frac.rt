@@ -1,6 +1,7 @@
 //! Fractions: their parts, and exact arithmetic.
 
 ghost use Rattle.std.specs.Prelude.{◌≡◌, ◌<◌, ◌≤◌, ◌^◌, ◌&&◌, ◌==◌, false};
+ghost use Rattle.stp_base.specs.declared.limits.TheConstants.{MAX_GRID};
 ghost use Rattle.stp_frac.specs.Divisors.{gcd, lcm};
 
 use crate::divisor::{cancel, gcd};
@@ -163,7 +164,7 @@ impl Frac {
     #[tactic(auto, unfolding(crate::specs::Fractions::on_grid_of, crate::specs::Fractions::whole_of))]
     pub fn on_grid(self, k: u128) -> Option<u128>
         requires low { 1 ≤ k }
-        requires high { k ≤ 999999999 }
+        requires high { k ≤ MAX_GRID }
         ensures { result ≡ on_grid_of k (value_of self) }
     {
         if self.negative {
@@ -189,7 +190,7 @@ impl Frac {
     /// n divided by k, where that is in range.
     pub fn from_grid(n: u128, k: u128) -> Option<Frac>
         requires low { 1 ≤ k }
-        requires high { k ≤ 999999999 }
+        requires high { k ≤ MAX_GRID }
         ensures { option_map value_of result ≡ fraction (pos n) k }
     {
         Frac::reduced(false, n, k)
@@ -199,7 +200,7 @@ impl Frac {
     pub fn join_grid(k: u128, f: Frac, limit: u128) -> Option<u128>
         requires low { 1 ≤ k }
         requires high { k ≤ limit }
-        requires limit { limit ≤ 999999999 }
+        requires limit { limit ≤ MAX_GRID }
         ensures { result ≡ up_to limit (lcm k (value_of f).bottom) }
     {
         let joint = k / gcd(k, f.bottom) * f.bottom;

@@ -8,7 +8,6 @@ pub mod laws;
 mod print;
 mod read;
 mod tail;
-pub mod units;
 
 pub use fault::NumberFault;
 pub use frac::Frac;

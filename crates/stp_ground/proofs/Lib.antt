@@ -7,3 +7,4 @@ pub mod Grown
 pub mod Made
 pub mod Firsts
 pub mod Rows
+pub mod LiteralKinds

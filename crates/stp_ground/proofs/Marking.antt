@@ -6,9 +6,11 @@ use Rattle.std.proofs.lemmas.Bool.Decides.{nat_tests}
 use Rattle.std.proofs.lemmas.List.{take_all}
 use Rattle.stp_schema.specs.Formula.{PlainAtom}
 use Rattle.stp_schema.specs.Schemas.{PlainSchema}
+use Rattle.stp_schema.specs.Timed.{PlainTimedFact}
+use Rattle.stp_schema.specs.Views.{PlainProblem}
 use Rattle.stp_instance.specs.Numbered.{is_fluent}
-use Rattle.stp_ground.specs.Problems.{effects_of, is_written_by, writes}
-use Rattle.stp_ground.specs.Marks.{with_effects, with_mark, with_marks}
+use Rattle.stp_ground.specs.Problems.{effects_of, is_named_by, is_written, is_written_by, names, writes}
+use Rattle.stp_ground.specs.Marks.{predicate_of, symbol_of, with_effects, with_events, with_mark, with_marks}
 
 or_true : (b : Bool) → true ≡ (b || true)
 or_true true = refl
@@ -55,26 +57,42 @@ lengthened marks count k h = ap (λ l. is_fluent (l ++ replicate k false)) (take
 
 -- ---- several atoms
 
-with_both : (xs ys : List PlainAtom) (marks : ℕ → Bool) → with_marks ys (with_marks xs marks) ≡ with_marks (xs ++ ys) marks
+with_both : (xs ys : List PlainAtom) (marks : ℕ → Bool) → with_marks symbol_of ys (with_marks symbol_of xs marks) ≡ with_marks symbol_of (xs ++ ys) marks
 with_both [] ys marks = refl
 with_both (x ∷ xs) ys marks = with_both xs ys (with_mark x.symbol marks)
 
-pub of_effects : (s : PlainSchema) (marks : ℕ → Bool) → with_marks s.end_dels (with_marks s.end_adds (with_marks s.start_dels (with_marks s.start_adds marks))) ≡ with_marks (effects_of s) marks
+pub of_effects : (s : PlainSchema) (marks : ℕ → Bool) → with_marks symbol_of s.end_dels (with_marks symbol_of s.end_adds (with_marks symbol_of s.start_dels (with_marks symbol_of s.start_adds marks))) ≡ with_marks symbol_of (effects_of s) marks
 of_effects s marks =
-    ap (λ m. with_marks s.end_dels (with_marks s.end_adds m)) (with_both s.start_adds s.start_dels marks)
-    ∙ ap (with_marks s.end_dels) (with_both (s.start_adds ++ s.start_dels) s.end_adds marks)
+    ap (λ m. with_marks symbol_of s.end_dels (with_marks symbol_of s.end_adds m)) (with_both s.start_adds s.start_dels marks)
+    ∙ ap (with_marks symbol_of s.end_dels) (with_both (s.start_adds ++ s.start_dels) s.end_adds marks)
     ∙ with_both (s.start_adds ++ s.start_dels ++ s.end_adds) s.end_dels marks
 
-marks_are : (atoms : List PlainAtom) (marks : ℕ → Bool) (n : ℕ) → with_marks atoms marks n ≡ (marks n || list_any (λ a. a.symbol == n) atoms)
-marks_are [] marks n = or_false (marks n)
-marks_are (a ∷ rest) marks n = marks_are rest (with_mark a.symbol marks) n ∙ or_again (marks n) (a.symbol == n) (list_any (λ x. x.symbol == n) rest)
+marks_are : {A : Type 0} (predicate : A → ℕ) (atoms : List A) (marks : ℕ → Bool) (n : ℕ) → with_marks predicate atoms marks n ≡ (marks n || list_any (λ a. predicate a == n) atoms)
+marks_are predicate [] marks n = or_false (marks n)
+marks_are predicate (a ∷ rest) marks n =
+    marks_are predicate rest (with_mark (predicate a) marks) n
+    ∙ or_again (marks n) (predicate a == n) (list_any (λ x. predicate x == n) rest)
 
 effects_are : (schemas : List PlainSchema) (marks : ℕ → Bool) (n : ℕ) → with_effects schemas marks n ≡ (marks n || is_written_by schemas n)
 effects_are [] marks n = or_false (marks n)
 effects_are (s ∷ rest) marks n =
-    effects_are rest (with_marks (effects_of s) marks) n
-    ∙ ap (λ b. b || is_written_by rest n) (marks_are (effects_of s) marks n)
+    effects_are rest (with_marks symbol_of (effects_of s) marks) n
+    ∙ ap (λ b. b || is_written_by rest n) (marks_are symbol_of (effects_of s) marks n)
     ∙ or_again (marks n) (writes n s) (is_written_by rest n)
 
-pub all_marked : (schemas : List PlainSchema) → with_effects schemas (is_fluent []) ≡ is_written_by schemas
-all_marked schemas = λ i n. effects_are schemas (is_fluent []) n i
+-- ---- several events
+
+events_are : (events : List PlainTimedFact) (marks : ℕ → Bool) (n : ℕ) → with_events events marks n ≡ (marks n || is_named_by events n)
+events_are [] marks n = or_false (marks n)
+events_are (e ∷ rest) marks n =
+    events_are rest (with_marks predicate_of e.literals marks) n
+    ∙ ap (λ b. b || is_named_by rest n) (marks_are predicate_of e.literals marks n)
+    ∙ or_again (marks n) (names n e) (is_named_by rest n)
+
+all_at : (p : PlainProblem) (n : ℕ) → with_events p.timed (with_effects p.domain.schemas (is_fluent [])) n ≡ is_written p n
+all_at p n =
+    events_are p.timed (with_effects p.domain.schemas (is_fluent [])) n
+    ∙ ap (λ b. b || is_named_by p.timed n) (effects_are p.domain.schemas (is_fluent []) n)
+
+pub all_marked : (p : PlainProblem) → with_events p.timed (with_effects p.domain.schemas (is_fluent [])) ≡ is_written p
+all_marked p = λ i n. all_at p n i

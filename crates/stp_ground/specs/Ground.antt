@@ -1,5 +1,6 @@
--- The ground action of what is chosen, over a table of numbered atoms.
-use Rattle.std.specs.Prelude.{ℕ, Bool, List, ◌++◌, if◌then◌else◌, Some, None, Result, Ok}
+-- The ground action of what is chosen, and what an event of the environment does, over a table of numbered atoms.
+use Rattle.std.specs.Prelude.{ℕ, Bool, true, false, List, [], ◌++◌, if◌then◌else◌, Some, None, Result, Ok}
+use Rattle.stp_schema.specs.Timed.{PlainTimedFact}
 use Rattle.stp_schema.specs.Views.{PlainProblem}
 use Rattle.stp_tables.specs.Atoms.{Atom}
 use Rattle.stp_cond.specs.Atoms.{set_of}
@@ -9,7 +10,7 @@ use Rattle.stp_task.specs.Durations.{lasts}
 use Rattle.stp_instance.specs.Expanded.{Claim}
 use Rattle.stp_instance.specs.Numbered.{fluent_atoms, folded_ground, numbers_in, with_atoms}
 use Rattle.stp_instance.specs.Effects.{added, deleted}
-use Rattle.stp_ground.specs.Problems.{is_fact, is_written}
+use Rattle.stp_ground.specs.Problems.{is_fact, is_written, atoms_of_kind}
 use Rattle.stp_ground.specs.declared.fault.InstanceFault.{InstanceFault}
 use Rattle.stp_base.specs.Results.{◌>>=◌}
 use Rattle.stp_ground.specs.Chosen.{PlainChosen, chosen_by}
@@ -50,3 +51,13 @@ abbrev pub instance_by : PlainProblem → List ℕ → List (List ℕ) → List 
 instance_by p name names table = do
   c ← chosen_by p name names
   Ok (with_atoms table (atoms_of_chosen p c), action_by p (with_atoms table (atoms_of_chosen p c)) c)
+
+-- what an event of the environment does: it needs nothing and reads nothing, and an atom that it both adds and deletes
+-- it adds
+abbrev pub event_by : List Atom → PlainTimedFact → PlainHappening
+event_by table e = record {
+  cond = Always;
+  reads = [];
+  adds = added table (atoms_of_kind true e.literals);
+  dels = deleted table (atoms_of_kind true e.literals) (atoms_of_kind false e.literals);
+}

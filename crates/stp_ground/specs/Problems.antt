@@ -1,8 +1,9 @@
--- What a problem says of atoms: which are fluent, and which are true at first.
-use Rattle.std.specs.Prelude.{ℕ, Bool, ◌==◌, if◌then◌else◌, List, [], ◌∷◌, ◌++◌, map, flat_map}
+-- What a problem says of atoms: which are fluent, which are true at first, and which its events write.
+use Rattle.std.specs.Prelude.{ℕ, Bool, true, false, not, ◌||◌, ◌==◌, if◌then◌else◌, List, [], ◌∷◌, ◌++◌, map, filter, flat_map}
 use Rattle.std.specs.List.{list_any}
 use Rattle.stp_schema.specs.Formula.{PlainAtom}
 use Rattle.stp_schema.specs.Schemas.{PlainSchema}
+use Rattle.stp_schema.specs.Timed.{PlainLiteral, PlainTimedFact}
 use Rattle.stp_schema.specs.Views.{PlainFact, PlainProblem}
 use Rattle.stp_tables.specs.Atoms.{Atom, is_atom}
 use Rattle.stp_instance.specs.Expanded.{Claim, objects_below, expanded}
@@ -20,9 +21,17 @@ writes predicate s = list_any (λ a. a.symbol == predicate) (effects_of s)
 abbrev pub is_written_by : List PlainSchema → ℕ → Bool
 is_written_by schemas predicate = list_any (writes predicate) schemas
 
--- a predicate is fluent exactly where some effect names it
+-- whether a literal of an event of the environment names a predicate
+abbrev pub names : ℕ → PlainTimedFact → Bool
+names predicate e = list_any (λ l. l.predicate == predicate) e.literals
+
+-- whether some literal of these events names a predicate
+abbrev pub is_named_by : List PlainTimedFact → ℕ → Bool
+is_named_by events predicate = list_any (names predicate) events
+
+-- a predicate is fluent exactly where some effect of the domain names it, or some event of the problem
 abbrev pub is_written : PlainProblem → ℕ → Bool
-is_written p = is_written_by p.domain.schemas
+is_written p predicate = is_written_by p.domain.schemas predicate || is_named_by p.timed predicate
 
 abbrev pub atom_of_fact : PlainFact → Atom
 atom_of_fact f = record { predicate = f.predicate; args = f.args }
@@ -58,3 +67,25 @@ initial_atoms p = fluent_facts (is_written p) p.initial
 -- the fluent atoms of the goal
 abbrev pub goal_atoms : PlainProblem → List Atom
 goal_atoms p = fluent_atoms (is_written p) (goal_of p)
+
+-- ---- events of the environment
+
+abbrev pub atom_of_literal : PlainLiteral → Atom
+atom_of_literal l = record { predicate = l.predicate; args = l.args }
+
+-- the atoms that the literals of an event name, in the order of the text
+abbrev pub atoms_of_event : PlainTimedFact → List Atom
+atoms_of_event e = map atom_of_literal e.literals
+
+-- those of all events, in their order; each of them is fluent
+abbrev pub event_atoms : PlainProblem → List Atom
+event_atoms p = flat_map atoms_of_event p.timed
+
+-- whether a literal adds its atom, or whether it deletes it
+abbrev pub is_kind : Bool → PlainLiteral → Bool
+is_kind true l = l.adds
+is_kind false l = not l.adds
+
+-- the atoms that literals add, or those that they delete
+abbrev pub atoms_of_kind : Bool → List PlainLiteral → List Atom
+atoms_of_kind adds literals = map atom_of_literal (filter (is_kind adds) literals)

@@ -1,10 +1,11 @@
-//! The ground action that a name and arguments choose.
+//! The ground action that a name and arguments choose, and what events of the environment do.
 #![tactic(auto)]
 
 mod arguments;
 pub mod beginning;
 pub mod choosing;
 pub mod chosen;
+pub mod events;
 pub mod fault;
 pub mod grounding;
 pub mod instances;
@@ -17,6 +18,7 @@ pub mod world;
 pub use beginning::{goal_in, number_goal, number_initial};
 pub use choosing::choose;
 pub use chosen::Chosen;
+pub use events::{ground_event, number_events};
 pub use fault::InstanceFault;
 pub use grounding::ground;
 pub use instances::instance;

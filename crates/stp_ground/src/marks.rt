@@ -3,13 +3,15 @@
 ghost use Rattle.std.specs.Prelude.{◌≡◌, ◌≤◌, [], length, map, IfOk, OnOk};
 ghost use Rattle.stp_schema.specs.Formula.{atoms_of};
 ghost use Rattle.stp_schema.specs.Schemas.{schema_of};
+ghost use Rattle.stp_schema.specs.Timed.{literal_of, timed_facts_of};
+ghost use Rattle.stp_schema.specs.Views.{problem_of};
 ghost use Rattle.stp_instance.specs.Numbered.{is_fluent};
-ghost use Rattle.stp_ground.specs.Problems.{effects_of, is_written_by};
-ghost use Rattle.stp_ground.specs.Marks.{with_effects, with_mark, with_marks};
+ghost use Rattle.stp_ground.specs.Problems.{effects_of, is_written};
+ghost use Rattle.stp_ground.specs.Marks.{predicate_of, symbol_of, with_effects, with_events, with_mark, with_marks};
 
 use std::alloc::Global;
 use stp_base::Memory;
-use stp_schema::{LiftedAtom, Schema};
+use stp_schema::{LiftedAtom, Problem, Schema, TimedFact, TimedLiteral};
 
 /// Makes a row of marks at least that long. The new marks are false.
 fn lengthen(marks: &mut Vec<bool>, count: usize) -> Result<(), Memory>
@@ -34,7 +36,7 @@ fn mark(marks: &mut Vec<bool>, predicate: u32) -> Result<(), Memory>
 
 /// Marks the predicates of these atoms.
 fn mark_all(marks: &mut Vec<bool>, atoms: &[LiftedAtom<'_>]) -> Result<(), Memory>
-    ensures { OnOk result (is_fluent marks.new.items ≡ with_marks (atoms_of atoms.now) (is_fluent marks.old.items)) }
+    ensures { OnOk result (is_fluent marks.new.items ≡ with_marks symbol_of (atoms_of atoms.now) (is_fluent marks.old.items)) }
 {
     for atom in atoms {
         mark(marks, atom.symbol)?;
@@ -45,7 +47,7 @@ fn mark_all(marks: &mut Vec<bool>, atoms: &[LiftedAtom<'_>]) -> Result<(), Memor
 /// Marks the predicates that the effects of a schema name.
 fn mark_effects(marks: &mut Vec<bool>, schema: &Schema<'_>) -> Result<(), Memory>
     ensures { OnOk result
-        (is_fluent marks.new.items ≡ with_marks (effects_of (schema_of schema.now)) (is_fluent marks.old.items)) }
+        (is_fluent marks.new.items ≡ with_marks symbol_of (effects_of (schema_of schema.now)) (is_fluent marks.old.items)) }
 {
     mark_all(marks, schema.start_adds)?;
     mark_all(marks, schema.start_dels)?;
@@ -66,10 +68,33 @@ fn marks_of(alloc: Global, schemas: &[Schema<'_>]) -> Result<Vec<bool>, Memory>
     Ok(marks)
 }
 
-/// Which predicates are fluent: those that some effect names.
-pub(crate) fn fluents(alloc: Global, schemas: &[Schema<'_>]) -> Result<Vec<bool>, Memory>
-    ensures { IfOk result (λ r. is_fluent r.items ≡ is_written_by (map schema_of schemas.now)) }
+/// Marks the predicates of these literals.
+fn mark_literals(marks: &mut Vec<bool>, literals: &[TimedLiteral<'_>]) -> Result<(), Memory>
+    ensures { OnOk result
+        (is_fluent marks.new.items ≡ with_marks predicate_of (map literal_of literals.now) (is_fluent marks.old.items)) }
 {
-    let marks = marks_of(alloc, schemas)?;
+    for literal in literals {
+        mark(marks, literal.predicate)?;
+    }
+    Ok(())
+}
+
+/// Marks the predicates that the literals of these events name.
+fn mark_events(marks: &mut Vec<bool>, events: &[TimedFact<'_>]) -> Result<(), Memory>
+    ensures { OnOk result
+        (is_fluent marks.new.items ≡ with_events (timed_facts_of events.now) (is_fluent marks.old.items)) }
+{
+    for event in events {
+        mark_literals(marks, event.literals)?;
+    }
+    Ok(())
+}
+
+/// Which predicates are fluent: those that some effect of the domain names, or some event of the problem.
+pub(crate) fn fluents(alloc: Global, problem: &Problem<'_>) -> Result<Vec<bool>, Memory>
+    ensures { IfOk result (λ r. is_fluent r.items ≡ is_written (problem_of problem.now)) }
+{
+    let mut marks = marks_of(alloc, problem.domain.schemas)?;
+    mark_events(&mut marks, problem.timed)?;
     Ok(marks)
 }

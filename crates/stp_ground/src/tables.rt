@@ -48,7 +48,7 @@ impl<'a> World<'a> {
     pub fn new(alloc: Global, problem: &'a Problem<'a>) -> Result<World<'a>, Memory>
         ensures { IfOk result (λ r. problem_in r ≡ problem_of problem.now) }
     {
-        let fluent = fluents(alloc, problem.domain.schemas)?;
+        let fluent = fluents(alloc, problem)?;
         let facts = facts(alloc, problem.initial)?;
         let values = Values::new(alloc, problem.values)?;
         let members = members(alloc, problem)?;

@@ -5,8 +5,8 @@ use Rattle.std.proofs.lemmas.List.Elements.{Contains-append_right}
 use Rattle.stp_cond.specs.declared.cond.Cond.{Cond}
 use Rattle.stp_happen.specs.declared.owners.Owner.{Owner}
 use Rattle.stp_happen.specs.SoundOwned.{IsOwner, IsOwnedBox}
-use Rattle.stp_happen.specs.Boxes.{PlainOwner, PlainBox}
-use Rattle.stp_happen.specs.Bounds.{MayEndWithin, bounded_owner, bounded_box}
+use Rattle.stp_happen.specs.Boxes.{PlainOwner}
+use Rattle.stp_happen.specs.Bounds.{MayEndWithin, bounded_owner}
 use Rattle.stp_happen.specs.Owners.{IsTimed, AreTimedApart, AreNumbered, AreInOrder}
 use Rattle.stp_happen.specs.OwnerViews.{plain_owner, plain_owners}
 use Rattle.stp_happen.proofs.Members.{here, there, each_of, all_mapped, mapped_member}
@@ -73,13 +73,6 @@ bounded_is_sound grid number low high owners news initial row goal b may same ke
       in_order = subst AreInOrder (sym same) (order_bounded number low high (plain_owners owners) uncertain b.in_order);
       goal_in_range = b.goal_in_range;
     })
-
-abbrev box_by : List PlainOwner → (ℕ → Bool) → ((ℕ → Bool) → Bool) → PlainBox
-box_by owners initial goal = record { owners = owners; initial = initial; goal = goal }
-
-pub bounded_is_box : (number low high : ℕ) (owners news : List PlainOwner) (initial row : ℕ → Bool) (goal : (ℕ → Bool) → Bool) → news ≡ map (bounded_owner number low high) owners → row ≡ initial →
-    box_by news row goal ≡ bounded_box number low high (box_by owners initial goal)
-bounded_is_box number low high owners news initial row goal o r = ap₂ (λ x y. box_by x y goal) o r
 
 -- ---- the owner in the middle of the others
 

@@ -1,15 +1,20 @@
 -- Steps and events as owners: one more of each, what owners keep, and the box that they make.
-use Rattle.std.proofs.Common.{◌≡◌, ℕ, ◌+◌, ◌<◌, ◌≤◌, Bool, List, [], ◌∷◌, ◌++◌, drop, length, get_or, All, Option, Some, None, IfSome, refl, ap, ap₂, sym, ◌∙◌, subst, arith, append_assoc}
+use Rattle.std.proofs.Common.{◌≡◌, ℕ, ◌+◌, ◌<◌, ◌≤◌, Bool, not, List, [], ◌∷◌, ◌++◌, drop, filter, length, get_or, All, Option, Some, None, IfSome, refl, ap, ap₂, sym, ◌∙◌, subst, arith, append_assoc}
+use Rattle.std.proofs.Math.Logic.{∥∥₁_elim}
+use Rattle.std.proofs.Props.{props}
 use Rattle.std.proofs.lemmas.List.{length-map}
+use Rattle.std.proofs.lemmas.List.Filters.{length-filter_both}
+use Rattle.stp_base.specs.declared.limits.TheConstants.{MAX_EVENTS, MAX_TIMED}
 use Rattle.stp_cond.specs.declared.cond.Cond.{Cond}
 use Rattle.stp_cond.specs.declared.event.Event.{Event}
+use Rattle.stp_happen.specs.declared.boxes.BoxRun.{BoxRun}
 use Rattle.stp_happen.specs.declared.boxes.BoxStep.{BoxStep}
 use Rattle.stp_happen.specs.declared.boxes.BoxTimed.{BoxTimed}
 use Rattle.stp_happen.specs.declared.owners.Owner.{Owner}
 use Rattle.stp_happen.specs.SoundBox.{IsBox, IsBoxStep, IsBoxTimed}
 use Rattle.stp_happen.specs.SoundOwned.{IsOwner, IsOwnedBox}
 use Rattle.stp_happen.specs.Boxes.{PlainOwner, PlainBox}
-use Rattle.stp_happen.specs.Owners.{step_owner, step_owners, timed_owner, number_after, timed_owners, owners_of, AreNumbered, AreInOrder}
+use Rattle.stp_happen.specs.Owners.{PlainTimed, step_owner, step_owners, timed_owner, number_after, timed_owners, owners_of, AreNumbered, AreInOrder}
 use Rattle.stp_happen.specs.StepViews.{step_of, steps_of, plain_timed, timed_of}
 use Rattle.stp_happen.specs.OwnerViews.{plain_owners}
 use Rattle.stp_happen.proofs.Refining.{item_here}
@@ -36,6 +41,7 @@ step_owner_in_range grid n number s b = record {
   high = b.high;
   certain = b.certain;
   lasting = λ first last. lasts s.start s.low s.last b.lasting last;
+  opened = λ first. absurd (some_is_not_none s.first first);
   begun = λ e. some_is_not_none s.first e;
   ended = λ last inside. some_is_not_none _ inside;
   first_in_range = b.first_in_range;
@@ -48,9 +54,10 @@ pub timed_owner_in_range : (grid n number : ℕ) (e : BoxTimed) → IsBoxTimed g
 timed_owner_in_range grid n number e b = record {
   up = omega arith;
   ordered = b.up;
-  high = b.high;
+  high = omega (arith, b.high);
   certain = b.certain;
   lasting = λ first last. absurd (first refl);
+  opened = λ first. refl;
   begun = tt;
   ended = λ last inside. some_is_not_none e.event last;
   first_in_range = tt;
@@ -74,6 +81,15 @@ timed_more timed i e l is number done new whole more all =
     ∙ (append_assoc done (timed_owner number (plain_timed e) ∷ []) (timed_owners (number_after number (plain_timed e)) (timed_of (drop (i + 1) timed)))
     ∙ (ap (λ es. done ++ timed_owners number es) (sym (item_here plain_timed timed i e l is)) ∙ all))
 
+-- ---- few events
+
+-- the events of a box, at fixed and at chosen moments
+pub few_of_box : (boxed : BoxRun) (read : List BoxTimed) → read ≡ boxed.timed → length read ≤ MAX_TIMED + MAX_EVENTS
+few_of_box boxed read e = ∥∥₁_elim boxed.sound (Prim.hlevel props) (λ b.
+    let fixed : length (filter (λ (t : PlainTimed). not t.uncertain) (timed_of boxed.timed)) ≤ MAX_TIMED = b.few_fixed in
+    let chosen : length (filter (λ (t : PlainTimed). t.uncertain) (timed_of boxed.timed)) ≤ MAX_EVENTS = b.few_chosen in
+    omega (arith, ap length e, length-map boxed.timed plain_timed, length-filter_both (λ (t : PlainTimed). t.uncertain) (λ (t : PlainTimed). not t.uncertain) (λ t. refl) (timed_of boxed.timed)))
+
 -- ---- the box
 
 pub owned_is_sound : (grid : ℕ) (steps : List BoxStep) (timed : List BoxTimed) (initial row : List Bool) (goal : Cond) (owners : List Owner) → IsBox grid steps timed initial goal →
@@ -96,7 +112,7 @@ owned_same read steps seen timed owners news all first e f =
     ∙ (ap₂ (λ ss es. step_owners 1 (steps_of ss) ++ timed_owners (length ss + 1) (timed_of es)) e f
     ∙ ap (λ n. step_owners 1 (steps_of steps) ++ timed_owners (n + 1) (timed_of timed)) (sym (length-map steps step_of))))
 
-abbrev box_by : List PlainOwner → (ℕ → Bool) → ((ℕ → Bool) → Bool) → PlainBox
+abbrev pub box_by : List PlainOwner → (ℕ → Bool) → ((ℕ → Bool) → Bool) → PlainBox
 box_by owners initial goal = record { owners = owners; initial = initial; goal = goal }
 
 pub owned_is_box : (owners others : List PlainOwner) (initial row : ℕ → Bool) (goal : (ℕ → Bool) → Bool) → owners ≡ others → row ≡ initial → box_by owners row goal ≡ box_by others initial goal

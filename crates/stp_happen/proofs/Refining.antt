@@ -1,10 +1,11 @@
 -- Steps and events on a grid that is so many times as fine keep what steps and events keep.
-use Rattle.std.proofs.Common.{◌≡◌, ℕ, ◌+◌, ◌*◌, ◌^◌, ◌<◌, ◌≤◌, nat_lt, Bool, true, not, ◌&&◌, ◌||◌, List, [], ◌∷◌, ◌++◌, map, drop, length, get_or, All, Option, Some, None, IfSome, inl, inr, ap, ap₂, sym, ◌∙◌, subst, arith, append_assoc, mul-pos}
+use Rattle.std.proofs.Common.{◌≡◌, ℕ, ◌+◌, ◌*◌, ◌^◌, ◌<◌, ◌≤◌, nat_lt, Bool, true, not, ◌&&◌, ◌||◌, List, [], ◌∷◌, ◌++◌, map, drop, filter, length, get_or, All, Option, Some, None, IfSome, inl, inr, refl, ap, ap₂, sym, ◌∙◌, subst, arith, append_assoc, mul-pos}
 use Rattle.std.proofs.lemmas.Bool.{cases_lt, lt-ltb, ltb-true}
 use Rattle.std.proofs.lemmas.List.{at_drop_more, length-map}
 use Rattle.std.proofs.Math.Logic.{∥∥₁_elim}
 use Rattle.std.proofs.Math.Path.{fun_ext}
 use Rattle.std.proofs.Props.{props}
+use Rattle.stp_base.specs.declared.limits.TheConstants.{MAX_EVENTS, MAX_MOMENT, MAX_TIMED}
 use Rattle.stp_cond.specs.declared.cond.Cond.{Cond}
 use Rattle.stp_cond.specs.declared.event.Event.{Event}
 use Rattle.stp_happen.specs.declared.boxes.BoxRun.{BoxRun}
@@ -15,7 +16,7 @@ use Rattle.stp_happen.specs.SoundBox.{IsBox, IsBoxStep, IsBoxTimed}
 use Rattle.stp_happen.specs.Boxes.{PlainOwner, PlainBox, finer_box}
 use Rattle.stp_happen.specs.Owners.{PlainStep, PlainTimed, owners_of, finer_step, finer_timed, timed_before}
 use Rattle.stp_happen.specs.StepViews.{step_of, plain_timed, timed_of}
-use Rattle.stp_happen.proofs.Members.{same_tests}
+use Rattle.stp_happen.proofs.Members.{same_tests, kept_alike}
 use Rattle.stp_happen.proofs.Ascending.{ascending_map}
 use Rattle.stp_happen.proofs.OwnerLists.{owners_are_finer}
 
@@ -25,8 +26,9 @@ times_below k a b h l = grind arith
 times_up : (k a b : ℕ) → a ≤ b → k * a ≤ k * b
 times_up k a b l = grind arith
 
-times_last : (k a grid : ℕ) → a ≤ 999999999 * grid → k * a ≤ 999999999 * (grid * k)
-times_last k a grid l = let e = times_up k a (999999999 * grid) l in grind arith
+-- a bound of so many units is kept on the finer grid
+times_last : (units k a grid : ℕ) → a ≤ units * grid → k * a ≤ units * (grid * k)
+times_last units k a grid l = let e = times_up k a (units * grid) l in grind arith
 
 lasting_refined : (last : Option Event) (k a b : ℕ) → 0 < k → IfSome last (λ e. a < b) → IfSome last (λ e. k * a < k * b)
 lasting_refined None k a b h l = l
@@ -38,7 +40,7 @@ refined k s = record s { start = k * s.start; low = k * s.low; high = k * s.high
 pub refined_in_range : (grid n k : ℕ) (s : BoxStep) → 0 < k → IsBoxStep grid n s → IsBoxStep (grid * k) n (refined k s)
 refined_in_range grid n k s h b = record {
   up = times_up k s.low s.high b.up;
-  high = times_last k s.high grid b.high;
+  high = times_last 999999999 k s.high grid b.high;
   certain = λ u. ap (λ t. k * t) (b.certain u);
   lasting = lasting_refined s.last k s.start s.low h b.lasting;
   instant = λ u. let r = b.instant u in (ap (λ t. k * t) r.0, r.1);
@@ -53,7 +55,7 @@ refined_timed k e = record e { low = k * e.low; high = k * e.high }
 pub timed_in_range : (grid n k : ℕ) (e : BoxTimed) → 0 < k → IsBoxTimed grid n e → IsBoxTimed (grid * k) n (refined_timed k e)
 timed_in_range grid n k e h b = record {
   up = times_up k e.low e.high b.up;
-  high = times_last k e.high grid b.high;
+  high = times_last MAX_MOMENT k e.high grid b.high;
   certain = λ u. ap (λ t. k * t) (b.certain u);
   event_in_range = b.event_in_range;
 }
@@ -63,7 +65,7 @@ pub small_events : (boxed : BoxRun) (read : List BoxTimed) → read ≡ boxed.ti
 small_events boxed read e = ∥∥₁_elim boxed.sound (Prim.hlevel props) (λ b. subst (All (λ e. (e.low < 2 ^ 64) × (e.high < 2 ^ 64))) (sym e) (λ k d h.
     let t = b.timed_in_range k d h in
     let grid : boxed.grid ≤ 999999999 = b.grid_high in
-    let high : (get_or boxed.timed k d).high ≤ 999999999 * boxed.grid = t.high in
+    let high : (get_or boxed.timed k d).high ≤ MAX_MOMENT * boxed.grid = t.high in
     let up : (get_or boxed.timed k d).low ≤ (get_or boxed.timed k d).high = t.up in
     (omega arith, omega arith)))
 
@@ -100,6 +102,10 @@ still_before k h e f = ap (λ b. f.uncertain || (not e.uncertain && b)) (same_te
 still_ordered : (k : ℕ) → 0 < k → (timed : List PlainTimed) → is_ascending timed_before timed ≡ true → is_ascending timed_before (map (finer_timed k) timed) ≡ true
 still_ordered k h timed up = ascending_map timed_before (finer_timed k) timed ∙ (ap (λ before. is_ascending before timed) (fun_ext (λ e. fun_ext (λ f. still_before k h e f))) ∙ up)
 
+-- of the finer events as many pass a test that does not see moments
+as_many : (k : ℕ) (q : PlainTimed → Bool) → ((e : PlainTimed) → q (finer_timed k e) ≡ q e) → (timed events : List PlainTimed) → events ≡ map (finer_timed k) timed → length (filter q events) ≡ length (filter q timed)
+as_many k q same timed events e = ap (λ es. length (filter q es)) e ∙ (ap length (kept_alike (finer_timed k) q q timed (λ x i. same x)) ∙ length-map (filter q timed) (finer_timed k))
+
 -- what a refined list is, and what its items keep
 pub record IsRefined {X Y : Type 0} (view : X → Y) (f : Y → Y) (IsIn : ℕ → ℕ → X → Type 0) (grid k : ℕ) (xs news : List X) : Type 0 where
   pub same : map view news ≡ map f (map view xs)
@@ -111,7 +117,8 @@ refined_box grid k steps news timed events initial row goal low high b same same
   grid_low = let l : 1 ≤ grid = b.grid_low in mul-pos l low;
   grid_high = high;
   few = let l : length steps ≤ 500 = b.few in omega (arith, same_length step_of (finer_step k) steps news same.same);
-  few_timed = let l : length timed ≤ 130 = b.few_timed in omega (arith, same_length plain_timed (finer_timed k) timed events same_timed.same);
+  few_fixed = let l : length (filter (λ (e : PlainTimed). not e.uncertain) (timed_of timed)) ≤ MAX_TIMED = b.few_fixed in omega (arith, as_many k (λ e. not e.uncertain) (λ e. refl) (timed_of timed) (timed_of events) same_timed.same);
+  few_chosen = let l : length (filter (λ (e : PlainTimed). e.uncertain) (timed_of timed)) ≤ MAX_EVENTS = b.few_chosen in omega (arith, as_many k (λ e. e.uncertain) (λ e. refl) (timed_of timed) (timed_of events) same_timed.same);
   steps_in_range = same.keeps (length initial) b.steps_in_range;
   timed_in_range = same_timed.keeps (length initial) b.timed_in_range;
   timed_ordered = ap (is_ascending timed_before) same_timed.same ∙ still_ordered k low (timed_of timed) b.timed_ordered;

@@ -1,6 +1,7 @@
 -- What each run keeps.
 use Rattle.std.specs.Prelude.{◌≡◌, ℕ, ◌*◌, ◌≤◌, ◌==◌, nat_lt, Bool, true, ◌&&◌, ◌||◌, List, [], ◌∷◌, length, All}
 use Rattle.std.specs.List.{list_all}
+use Rattle.stp_base.specs.declared.limits.TheConstants.{MAX_GRID, MAX_TIME}
 use Rattle.stp_cond.specs.declared.cond.Cond.{Cond}
 use Rattle.stp_cond.specs.Truth.{is_below}
 pub use Rattle.stp_cond.specs.Events.{IsEventInRange}
@@ -21,7 +22,7 @@ span_before s o = nat_lt s.step.0 o.step.0
 
 -- the greatest moment on a grid
 abbrev pub last_moment : ℕ → ℕ
-last_moment grid = 999999999 * grid
+last_moment grid = MAX_TIME * grid
 
 pub record IsEntryInRange (grid n : ℕ) (e : Entry) : Type 0 where
   pub time : e.time ≤ last_moment grid
@@ -36,7 +37,7 @@ pub record IsSpanInRange (grid n : ℕ) (s : Span) : Type 0 where
 -- span for a step; moments on the grid within 999,999,999 units; and atoms that the first state has.
 pub record IsRun (grid : ℕ) (entries : List Entry) (spans : List Span) (initial : List Bool) (goal : Cond) : Type 0 where
   pub grid_low : 1 ≤ grid
-  pub grid_high : grid ≤ 999999999
+  pub grid_high : grid ≤ MAX_GRID
   pub entries_ordered : is_ascending entry_before entries ≡ true
   pub spans_ordered : is_ascending span_before spans ≡ true
   pub entries_in_range : All (IsEntryInRange grid (length initial)) entries

@@ -1,5 +1,6 @@
 -- What each box keeps.
-use Rattle.std.specs.Prelude.{◌≡◌, ℕ, ◌<◌, ◌≤◌, Bool, true, false, List, length, All, None, IfSome}
+use Rattle.std.specs.Prelude.{◌≡◌, ℕ, ◌*◌, ◌<◌, ◌≤◌, Bool, true, false, not, List, filter, length, All, None, IfSome}
+use Rattle.stp_base.specs.declared.limits.TheConstants.{MAX_EVENTS, MAX_GRID, MAX_MOMENT, MAX_STEPS, MAX_TIMED}
 use Rattle.stp_cond.specs.declared.cond.Cond.{Cond}
 use Rattle.stp_cond.specs.Truth.{is_below}
 use Rattle.stp_happen.specs.declared.boxes.BoxStep.{BoxStep}
@@ -20,20 +21,22 @@ pub record IsBoxStep (grid n : ℕ) (s : BoxStep) : Type 0 where
   pub last_in_range : IfSome s.last (IsEventInRange n)
   pub over_in_range : is_below n s.over.now ≡ true
 
--- What each event of the environment in a box keeps: low up to high, and equal unless its moment is chosen.
+-- What each event of the environment in a box keeps: low up to high, within 100,000,000 units, and equal unless
+-- its moment is chosen.
 pub record IsBoxTimed (grid n : ℕ) (e : BoxTimed) : Type 0 where
   pub up : e.low ≤ e.high
-  pub high : e.high ≤ last_moment grid
+  pub high : e.high ≤ MAX_MOMENT * grid
   pub certain : e.uncertain ≡ false → e.low ≡ e.high
   pub event_in_range : IsEventInRange n e.event
 
--- What each box keeps: a grid from 1 to 999,999,999, at most 500 steps and 130 events of the environment, those
--- at fixed moments first and by moment, and atoms that the first state has.
+-- What each box keeps: a grid from 1 to 999,999,999, at most 500 steps, at most 100 events of the environment at
+-- fixed moments and 30 at chosen ones, those at fixed moments first and by moment, and atoms that the first state has.
 pub record IsBox (grid : ℕ) (steps : List BoxStep) (timed : List BoxTimed) (initial : List Bool) (goal : Cond) : Type 0 where
   pub grid_low : 1 ≤ grid
-  pub grid_high : grid ≤ 999999999
-  pub few : length steps ≤ 500
-  pub few_timed : length timed ≤ 130
+  pub grid_high : grid ≤ MAX_GRID
+  pub few : length steps ≤ MAX_STEPS
+  pub few_fixed : length (filter (λ e. not e.uncertain) (timed_of timed)) ≤ MAX_TIMED
+  pub few_chosen : length (filter (λ e. e.uncertain) (timed_of timed)) ≤ MAX_EVENTS
   pub steps_in_range : All (IsBoxStep grid (length initial)) steps
   pub timed_in_range : All (IsBoxTimed grid (length initial)) timed
   pub timed_ordered : is_ascending timed_before (timed_of timed) ≡ true

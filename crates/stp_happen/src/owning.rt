@@ -1,9 +1,10 @@
 //! The owners of a box's steps and events.
 
 ghost use Rattle.std.specs.Prelude.{◌≡◌, ℕ, ◌+◌, ◌≤◌, ◌++◌, length, All, IfOk, OnOk};
+ghost use Rattle.stp_base.specs.declared.limits.TheConstants.{MAX_EVENTS, MAX_STEPS, MAX_TIMED};
 ghost use Rattle.stp_happen.specs.BoxViews.{plain_box};
 ghost use Rattle.stp_happen.specs.OwnedViews.{plain_owned};
-ghost use Rattle.stp_happen.specs.Owners.{number_after, step_owner as step_owner_lem, step_owners, timed_owner as timed_owner_lem, timed_owners};
+ghost use Rattle.stp_happen.specs.Owners.{number_after, step_owner, step_owners, timed_owner, timed_owners};
 ghost use Rattle.stp_happen.specs.OwnerViews.{plain_owner, plain_owners};
 ghost use Rattle.stp_happen.specs.SoundBox.{IsBoxStep, IsBoxTimed};
 ghost use Rattle.stp_happen.specs.SoundOwned.{IsOwner};
@@ -16,7 +17,7 @@ use stp_base::{List, Memory};
 
 /// The owner of a step's events.
 fn step_owner<'a>(number: u32, step: &BoxStep<'a>) -> Owner<'a>
-    ensures same { plain_owner result ≡ step_owner_lem number (step_of step.now) }
+    ensures same { plain_owner result ≡ step_owner number (step_of step.now) }
     ensures in_range { (grid n : ℕ) → IsBoxStep grid n step.now → IsOwner grid n result }
 {
     Owner {
@@ -36,7 +37,7 @@ fn step_owner<'a>(number: u32, step: &BoxStep<'a>) -> Owner<'a>
 
 /// The owner of an event of the environment, which has the next number if its moment is chosen.
 fn timed_owner<'a>(next: u32, timed: &BoxTimed<'a>) -> Owner<'a>
-    ensures same { plain_owner result ≡ timed_owner_lem next (plain_timed timed.now) }
+    ensures same { plain_owner result ≡ timed_owner next (plain_timed timed.now) }
     ensures in_range { (grid n : ℕ) → IsBoxTimed grid n timed.now → IsOwner grid n result }
 {
     Owner {
@@ -62,7 +63,7 @@ fn number_past(next: u32, timed: &BoxTimed<'_>) -> u32
 
 /// The owners of these steps, numbered from 1 on.
 fn owners_of_steps<'a>(alloc: Global, steps: &[BoxStep<'a>]) -> Result<List<Owner<'a>>, Memory>
-    requires { length steps.now ≤ 500 }
+    requires { length steps.now ≤ MAX_STEPS }
     ensures same { IfOk result (λ r. plain_owners r ≡ step_owners 1 (steps_of steps.now)) }
     ensures in_range { IfOk result (λ r. (grid n : ℕ) → All (IsBoxStep grid n) steps.now → All (IsOwner grid n) r) }
 {
@@ -82,7 +83,7 @@ fn push_timed<'a>(
     first: u32,
 ) -> Result<(), Memory>
     requires first { first ≤ 501 }
-    requires few { length timed.now ≤ 130 }
+    requires few { length timed.now ≤ MAX_TIMED + MAX_EVENTS }
     ensures same { OnOk result (plain_owners owners.new ≡ plain_owners owners.old ++ timed_owners first (timed_of timed.now)) }
     ensures in_range { OnOk result ((grid n : ℕ) → All (IsOwner grid n) owners.old → All (IsBoxTimed grid n) timed.now → All (IsOwner grid n) owners.new) }
 {

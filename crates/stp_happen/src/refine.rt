@@ -1,6 +1,7 @@
 //! The same box on a finer grid.
 
 ghost use Rattle.std.specs.Prelude.{◌≡◌, ℕ, ◌*◌, ◌^◌, ◌<◌, ◌≤◌, map, All, IfOk};
+ghost use Rattle.stp_base.specs.declared.limits.TheConstants.{MAX_GRID};
 ghost use Rattle.stp_happen.specs.Boxes.{finer_box};
 ghost use Rattle.stp_happen.specs.BoxViews.{plain_box};
 ghost use Rattle.stp_happen.specs.Owners.{finer_step, finer_timed};
@@ -87,7 +88,7 @@ fn refined_events<'a>(
 /// The same box on a grid that is so many times as fine.
 pub fn refine<'a>(alloc: Global, boxed: &BoxRun<'a>, factor: u128) -> Result<BoxRun<'a>, Memory>
     requires factor { 1 ≤ factor }
-    requires grid { boxed.now.grid * factor ≤ 999999999 }
+    requires grid { boxed.now.grid * factor ≤ MAX_GRID }
     ensures same { IfOk result (λ r. plain_box r ≡ finer_box factor (plain_box boxed.now)) }
     ensures grid { IfOk result (λ r. r.grid ≡ boxed.now.grid * factor) }
 {

@@ -1,5 +1,6 @@
 -- What a read of a file gives, and what a store in memory is.
 use Rattle.std.specs.Prelude.{◌≡◌, ◌⊎◌, ◌-◌, ◌<◌, ◌≤◌, ℕ, Bool, List, length, take, drop, Option, Some, is_some, not, ◌&&◌}
+use Rattle.stp_base.specs.declared.limits.TheConstants.{MAX_FILE_BYTES}
 use Rattle.stp_io.specs.Calls.{fails_later}
 use Rattle.stp_io.specs.Named.{file_of}
 use Rattle.stp_io.specs.declared.calls.Calls.{Calls}
@@ -21,7 +22,7 @@ IsRead file offset n buffer = (bytes : List ℕ) × (file ≡ Some bytes) × Rea
 
 -- The file is there, and is longer than a file may be.
 abbrev pub IsTooLong : Option (List ℕ) → Type 0
-IsTooLong file = (bytes : List ℕ) × (file ≡ Some bytes) × (1048576 < length bytes)
+IsTooLong file = (bytes : List ℕ) × (file ≡ Some bytes) × (MAX_FILE_BYTES < length bytes)
 
 -- What a store in memory keeps: its files, and its calls.
 pub record StoreState : Type 0 where

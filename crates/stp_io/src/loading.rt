@@ -1,6 +1,7 @@
 //! Whole files.
 
 ghost use Rattle.std.specs.Prelude.{◌≡◌, ◌≤◌, ℕ, List, length, true, false, Some, Err, IfOk, IfSome};
+ghost use Rattle.stp_base.specs.declared.limits.TheConstants.{MAX_FILE_BYTES};
 ghost use Rattle.stp_io.specs.Store.{HasRisen, IsTooLong};
 ghost use Rattle.stp_io.specs.declared.loading.LoadFault.TheVariants.{Memory as OutOfMemory};
 
@@ -38,7 +39,7 @@ const BUFFER_BYTES: usize = 16_384;
 /// The whole file of a name, which has 1,048,576 bytes at most.
 pub fn load<S: Store>(alloc: Global, store: &mut S, name: &str) -> Result<Text, LoadFault>
     ensures text { IfOk result (λ t. IfSome (S.files store.old) (λ f. f name.now ≡ Some t)) }
-    ensures limit { IfOk result (λ t. length t ≤ 1048576) }
+    ensures limit { IfOk result (λ t. length t ≤ MAX_FILE_BYTES) }
     ensures too_long { result ≡ Err LoadFault.TooLong → IfSome (S.files store.old) (λ f. IsTooLong (f name.now)) }
     ensures counted { result ≡ Err LoadFault.ReadFault → HasRisen (S.faults store.old) (S.faults store.new) }
     ensures unsteady { result ≡ Err LoadFault.ReadFault → S.steady store.old name.now ≡ false }

@@ -1,6 +1,7 @@
 -- Laws of plan texts.
 use Rattle.std.specs.Prelude.{◌≡◌, ℕ, ◌≤◌, unsigned_abs, true, false, List, [], ◌∷◌, length, All, Some, Ok}
 use Rattle.std.specs.List.{list_all}
+use Rattle.stp_base.specs.declared.limits.TheConstants.{MAX_GRID, MAX_STEPS, MAX_TIME}
 use Rattle.stp_frac.specs.Fractions.{Fraction, is_below_zero}
 use Rattle.stp_frac.specs.Laws.{CanBeSpelled}
 use Rattle.stp_text.specs.Names.{is_name}
@@ -31,7 +32,7 @@ IsAbove f = is_below_zero f.top ≡ false
 
 -- one that keeps the limits of digits
 abbrev pub IsShort : Fraction → Type 0
-IsShort f = IsAbove f × (f.bottom ≤ 999999999) × (f.bottom ≡ 1 → unsigned_abs f.top ≤ 999999999)
+IsShort f = IsAbove f × (f.bottom ≤ MAX_GRID) × (f.bottom ≡ 1 → unsigned_abs f.top ≤ MAX_TIME)
 
 -- one that has lowest terms besides
 abbrev pub IsSpellable : Fraction → Type 0
@@ -44,7 +45,7 @@ pub record IsLawful (IsNumber : Fraction → Type 0) (s : PlainStep) : Type 0 wh
 
 -- at most 500 such steps
 pub record IsLawfulPlan (IsNumber : Fraction → Type 0) (plan : List PlainStep) : Type 0 where
-  pub few : length plan ≤ 500
+  pub few : length plan ≤ MAX_STEPS
   pub steps : All (IsLawful IsNumber) plan
 
 -- a plan that was read is one of numbers from 0 on

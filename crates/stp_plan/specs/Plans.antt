@@ -1,5 +1,6 @@
 -- The plan that a text is, or the one refusal of it.
 use Rattle.std.specs.Prelude.{ℕ, ◌+◌, nat_lt, Bool, true, false, if◌then◌else◌, List, [], ◌∷◌, ◌++◌, length, map, slice_get, filter_map, Option, Some, None, unwrap_or, Result, Ok, Err}
+use Rattle.stp_base.specs.declared.limits.TheConstants.{MAX_STEPS}
 use Rattle.stp_plan.specs.declared.fault.PlanFault.{PlanFault}
 use Rattle.stp_plan.specs.declared.fault.PlanFault.TheVariants.{BadLine, TooManySteps}
 use Rattle.stp_plan.specs.Lines.{texts_of}
@@ -50,7 +51,7 @@ unless_many None steps = Ok steps
 unfoldable pub plan_in : List LineKind → Result (List PlainStep) PlanFault
 plan_in lines =
     unless_bad (slice_get (numbers_of is_bad 1 lines) 0)
-    (unless_many (slice_get (numbers_of is_step 1 lines) 500) (filter_map step_in lines))
+    (unless_many (slice_get (numbers_of is_step 1 lines) MAX_STEPS) (filter_map step_in lines))
 
 -- the steps of a text's lines in order, or why the text is refused
 unfoldable pub plan_of : List ℕ → Result (List PlainStep) PlanFault
@@ -66,6 +67,6 @@ pub record SoFar : Type 0 where
 -- with the step of a line
 abbrev pub with_step : ℕ → PlainStep → SoFar → SoFar
 with_step n step so_far =
-    if nat_lt (length so_far.steps) 500
+    if nat_lt (length so_far.steps) MAX_STEPS
     then record so_far { steps = so_far.steps ++ step ∷ [] }
     else record so_far { extra = Some (unwrap_or so_far.extra n) }

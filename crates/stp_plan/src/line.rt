@@ -2,6 +2,7 @@
 
 ghost use Rattle.std.specs.Prelude.{◌≡◌, ◌≤◌, ◌+◌, ◌==◌, length, map, All, IfOk};
 ghost use Rattle.std.specs.List.{position_or_len, prefix_len};
+ghost use Rattle.stp_base.specs.declared.limits.TheConstants.{MAX_FILE_BYTES};
 ghost use Rattle.stp_text.specs.Bytes.{is_white};
 ghost use Rattle.stp_plan.specs.Lines.{lines_of, before_comment, trim_end, line_text, texts_of, place_of, places_of, text_at};
 
@@ -65,7 +66,7 @@ fn black_length(text: &[u8]) -> usize
 
 /// The place of a line that begins at a place, without its comment and its white ends.
 fn line_at(at: usize, line: &[u8]) -> Line
-    requires { at + length line.now ≤ 1048576 }
+    requires { at + length line.now ≤ MAX_FILE_BYTES }
     ensures { result ≡ place_of at line.now }
 {
     let text = before_comment(line);
@@ -80,7 +81,7 @@ fn line_at(at: usize, line: &[u8]) -> Line
 /// The lines of a text of at most 1,048,576 bytes in order, each without its comment and without white bytes at its
 /// ends. After a last line feed there is no further line.
 pub fn lines(alloc: Global, bytes: &[u8]) -> Result<List<Line>, Memory>
-    requires { length bytes.now ≤ 1048576 }
+    requires { length bytes.now ≤ MAX_FILE_BYTES }
     ensures value { IfOk result (λ found. found ≡ places_of 0 (lines_of bytes.now)) }
     ensures texts { IfOk result (λ found. map (text_at bytes.now) found ≡ texts_of bytes.now) }
     ensures within { IfOk result (λ found. All (λ line. (line.from ≤ line.to) × (line.to ≤ length bytes.now)) found) }

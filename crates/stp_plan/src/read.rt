@@ -1,6 +1,7 @@
 //! Reading plans, and single names with their arguments.
 
 ghost use Rattle.std.specs.Prelude.{◌≡◌, ◌≢◌, ◌≤◌, length, IfOk, OnOk, MatchResult};
+ghost use Rattle.stp_base.specs.declared.limits.TheConstants.{MAX_FILE_BYTES};
 ghost use Rattle.stp_plan.specs.Laws.{IsAbove, IsLawfulPlan};
 ghost use Rattle.stp_plan.specs.Names.{named_of};
 ghost use Rattle.stp_plan.specs.Plans.{plan_of, with_step};
@@ -53,7 +54,7 @@ fn keep(kept: &mut Kept, number: u32, step: Step) -> Result<(), Memory>
 /// The plan that a text of at most 1,048,576 bytes is. It is refused for the first line that is neither empty nor a
 /// step, and where there is none for the line of the 501st step. No number of it is below 0.
 pub fn read_plan(alloc: Global, bytes: &[u8]) -> Result<Plan, PlanFault>
-    requires { length bytes.now ≤ 1048576 }
+    requires { length bytes.now ≤ MAX_FILE_BYTES }
     ensures read { MatchResult result (λ plan. plan_of bytes.now ≡ Ok (plain_plan plan)) (λ fault. fault ≢ PlanFault.Memory → plan_of bytes.now ≡ Err fault) }
     ensures lawful { IfOk result (λ plan. IsLawfulPlan IsAbove (plain_plan plan)) }
 {

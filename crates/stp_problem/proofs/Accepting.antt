@@ -1,8 +1,8 @@
 -- What is read where nothing is refused.
-use Rattle.std.proofs.Common.{◌≡◌, Bool, true, false, if◌then◌else◌, List, [], ◌∷◌, Option, Some, None, Ok, refl}
+use Rattle.std.proofs.Common.{◌≡◌, Bool, true, false, if◌then◌else◌, List, [], ◌∷◌, Option, Some, None, Ok, refl, sym, ◌∙◌}
 use Rattle.stp_refusal.specs.declared.offence.Offence.{Offence}
 use Rattle.stp_refusal.specs.First.{first_of, first_from, is_before}
-use Rattle.stp_refusal.specs.Phases.{chosen, or_else}
+use Rattle.stp_refusal.specs.Phases.{chosen, ended, or_else}
 use Rattle.stp_refusal.specs.Phases.{unless_refused}
 
 pub accepted_value : {A : Type 0} (value : A) (f : Option Offence) (v : A) → unless_refused value f ≡ Ok v → value ≡ v
@@ -32,6 +32,14 @@ found_stays o (p ∷ os) e = one_stays o p os (is_before o p) e (found_stays o o
 no_offences : (os : List Offence) → first_of os ≡ None → os ≡ []
 no_offences [] e = refl
 no_offences (o ∷ os) e = absurd (found_stays o os e)
+
+-- a phase that ended well found no offence
+ended_none : (f : Option Offence) → ended f ≡ Ok tt → f ≡ None
+ended_none None e = refl
+ended_none (Some o) e = cc
+
+pub found_none : (f : Option Offence) (os : List Offence) → f ≡ first_of os → ended f ≡ Ok tt → os ≡ []
+found_none f os h e = no_offences os (sym h ∙ ended_none f e)
 
 -- of phases that chose nothing, the first found nothing
 pub first_none : (os : List Offence) (ps : List (List Offence)) → chosen (os ∷ ps) ≡ None → os ≡ []

@@ -13,6 +13,13 @@ pub mod Called
 pub mod Going
 pub mod Typed
 pub mod Once
+pub mod TypedEvents
+pub mod Latest
+pub mod Putting
+pub mod Orders
+pub mod Sorted
+pub mod AllTimes
+pub mod Lawful
 mod Phases
 mod TooLarge
 mod TypedObjects

@@ -1,5 +1,5 @@
 -- What is read of a problem's tree.
-use Rattle.std.proofs.Common.{◌≡◌, List, [], ◌∷◌, Ok, None, length, take, refl, ap, ◌∙◌, subst}
+use Rattle.std.proofs.Common.{◌≡◌, List, [], ◌∷◌, ◌++◌, Ok, None, length, take, refl, ap, ◌∙◌, subst}
 use Rattle.stp_text.specs.Tree.{Tree}
 use Rattle.stp_refusal.specs.declared.code.Code.TheVariants.{P06}
 use Rattle.stp_refusal.specs.declared.offence.Offence.{Offence}
@@ -9,7 +9,11 @@ use Rattle.stp_schema.specs.Views.{PlainDomain, PlainProblem}
 use Rattle.stp_condition.proofs.TypedConditions.{condition_typed}
 use Rattle.stp_domain_tables.specs.Objects.{HasLawfulConstants, with_objects}
 use Rattle.stp_problem.specs.Objects.{declared_objects}
-use Rattle.stp_problem.specs.Facts.{nothing}
+use Rattle.stp_problem.specs.Facts.{nothing, facts_read}
+use Rattle.stp_problem.specs.TimedItems.{timed_read}
+use Rattle.stp_problem.specs.Events.{events_wrong}
+use Rattle.stp_refusal.proofs.Saying.{none_first, none_rest}
+use Rattle.stp_problem.proofs.TypedEvents.{timed_typed}
 use Rattle.stp_problem.proofs.Typed.{items_typed}
 use Rattle.stp_problem.specs.Reading.{sizes_wrong, parts_phase, objects_phase, facts_phase, goal_phase, known_in, size_in, phases, problem_of_tree, problem_or_refusal}
 use Rattle.stp_problem.specs.Laws.{IsTypedProblem}
@@ -20,7 +24,7 @@ use Rattle.stp_problem.proofs.Constants.{objects_begin}
 
 module _ (d : PlainDomain) (u : Tree) (none : chosen (phases d u) ≡ None) where
   abbrev sizes_left : List (List Offence)
-  sizes_left = sizes_wrong (size_in d u) (parts_phase d u).value.goal_at (goal_phase d u).value d.schemas
+  sizes_left = sizes_wrong (size_in d u) (parts_phase d u).value.goal_at (goal_phase d u).value d.schemas ++ events_wrong (facts_phase d u).value.1
 
   abbrev from_goal : List (List Offence)
   from_goal = (goal_phase d u).offences ∷ sizes_left
@@ -34,8 +38,14 @@ module _ (d : PlainDomain) (u : Tree) (none : chosen (phases d u) ≡ None) wher
   facts_left : chosen from_facts ≡ None
   facts_left = rest_none (objects_phase d u).offences from_facts (rest_none (parts_phase d u).offences from_objects none)
 
-  facts_none : (facts_phase d u).offences ≡ []
-  facts_none = first_none (facts_phase d u).offences from_goal facts_left
+  init_none : (facts_phase d u).offences ≡ []
+  init_none = first_none (facts_phase d u).offences from_goal facts_left
+
+  facts_none : (facts_read (known_in d u) (parts_phase d u).value.init).offences ≡ []
+  facts_none = none_first (facts_read (known_in d u) (parts_phase d u).value.init).offences (timed_read (known_in d u) (parts_phase d u).value.init).offences init_none
+
+  timed_none : (timed_read (known_in d u) (parts_phase d u).value.init).offences ≡ []
+  timed_none = none_rest (facts_read (known_in d u) (parts_phase d u).value.init).offences (timed_read (known_in d u) (parts_phase d u).value.init).offences init_none
 
   goal_none : (goal_phase d u).offences ≡ []
   goal_none = first_none (goal_phase d u).offences sizes_left (rest_none (facts_phase d u).offences from_goal facts_left)
@@ -53,6 +63,7 @@ module _ (d : PlainDomain) (u : Tree) (none : chosen (phases d u) ≡ None) wher
         constants = objects_lead h.once;
         facts = state.facts;
         values = state.values;
+        events = timed_typed (known_in d u) (parts_phase d u).value.init timed_none;
         goal = condition_typed (known_in d u) h.types (parts_phase d u).value.goal [] goal_none;
       }
 

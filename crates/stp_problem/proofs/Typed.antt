@@ -117,7 +117,7 @@ module _ (k : Known) where
   numbered_typed shapes call None atom e none = cc
   numbered_typed shapes call (Some number) atom e none = shaped_typed shapes call number (slice_get shapes number) atom refl e none
 
-  call_typed : (kind : SymbolKind) (call : Call) (atom : Atom) → (call_read kind k call).value ≡ Some atom → (call_read kind k call).offences ≡ [] → IsAtomTyped k (shapes_of kind k.predicates k.functions) atom.predicate atom.args
+  pub call_typed : (kind : SymbolKind) (call : Call) (atom : Atom) → (call_read kind k call).value ≡ Some atom → (call_read kind k call).offences ≡ [] → IsAtomTyped k (shapes_of kind k.predicates k.functions) atom.predicate atom.args
   call_typed kind call atom e none = numbered_typed (shapes_of kind k.predicates k.functions) call (number_of (shape_names (shapes_of kind k.predicates k.functions)) call.name) atom e none
 
   -- ---- items
@@ -150,7 +150,7 @@ module _ (k : Known) where
   form_typed at state (Holds call) h none = fact_typed state (call_read Predicate k call).value h (λ a e. call_typed Predicate call a e none)
   form_typed at state (Denied call) h none = h
   form_typed at state (Value call value) h none = value_typed at value state (call_read Function k call).value h (λ a e. call_typed Function call a e (none_first (call_read Function k call).offences (value_read at value state (call_read Function k call).value).offences none))
-  form_typed at state Timed h none = cc
+  form_typed at state Timed h none = h
   form_typed at state Malformed h none = cc
 
   pub items_typed : (state : State) (ts : Trees) → IsStateTyped state → (items_read k state ts).offences ≡ [] → IsStateTyped (items_read k state ts).value

@@ -3,7 +3,7 @@ use Rattle.std.specs.Prelude.{ℕ, if◌then◌else◌, List, [], ◌∷◌, ◌
 use Rattle.std.specs.Ordering.{is_eq}
 use Rattle.stp_text.specs.Tree.{Tree, Trees, NoMore, More}
 use Rattle.stp_text.specs.Items.{place}
-use Rattle.stp_refusal.specs.declared.code.Code.TheVariants.{P08, P11, P12}
+use Rattle.stp_refusal.specs.declared.code.Code.TheVariants.{P08, P11}
 use Rattle.stp_refusal.specs.Read.{Read, fine, bad, map_read, unless, offence_at}
 use Rattle.stp_domain_parts.specs.Then.{then_read}
 use Rattle.stp_frac.specs.Fractions.{Fraction, order_of}
@@ -58,7 +58,7 @@ abbrev pub form_read : Known → ℕ → State → Form → Read State
 form_read k at state (Holds call) = map_read (with_fact state) (call_read Predicate k call)
 form_read k at state (Denied call) = map_read (λ atom. state) (call_read Predicate k call)
 form_read k at state (Value call value) = then_read (call_read Function k call) (value_read at value state)
-form_read k at state Timed = bad at P12 state
+form_read k at state Timed = fine state
 form_read k at state Malformed = bad at P08 state
 
 abbrev pub item_read : Known → State → Tree → Read State

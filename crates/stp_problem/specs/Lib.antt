@@ -4,9 +4,15 @@ pub mod Nodes
 pub mod Counting
 pub mod Objects
 pub mod Calls
+pub mod Windows
+pub mod Written
 pub mod Items
 pub mod Facts
+pub mod TimedItems
+pub mod Events
 pub mod Views
+pub mod TimedViews
 pub mod Typed
 pub mod Reading
+pub mod TimeLaws
 pub mod Laws

@@ -1,10 +1,10 @@
 -- The problem of a tree, or its one refusal.
-use Rattle.std.specs.Prelude.{ℕ, if◌then◌else◌, List, [], ◌∷◌, Result}
-use Rattle.stp_text.specs.Tree.{Tree}
+use Rattle.std.specs.Prelude.{ℕ, if◌then◌else◌, List, [], ◌∷◌, ◌++◌, Result}
+use Rattle.stp_text.specs.Tree.{Tree, Trees}
 use Rattle.stp_refusal.specs.declared.code.Code.TheVariants.{P13, P14}
 use Rattle.stp_refusal.specs.declared.offence.Offence.{Offence}
 use Rattle.stp_refusal.specs.declared.phase.ReadFault.{ReadFault}
-use Rattle.stp_refusal.specs.Read.{Read, given, offence_at}
+use Rattle.stp_refusal.specs.Read.{Read, given, offence_at, pair_read}
 use Rattle.stp_refusal.specs.Phases.{chosen}
 use Rattle.stp_domain_parts.specs.Problem.{Problem, problem_read}
 use Rattle.stp_schema.specs.Rows.{Thing}
@@ -15,9 +15,15 @@ use Rattle.stp_schema.specs.Views.{PlainDomain, PlainProblem}
 use Rattle.stp_condition.specs.Conditions.{condition_read}
 use Rattle.stp_problem.specs.Objects.{objects_read}
 use Rattle.stp_problem.specs.Facts.{State, facts_read}
+use Rattle.stp_problem.specs.TimedItems.{PlainTimedItem, timed_read}
+use Rattle.stp_problem.specs.Events.{events_of, events_wrong}
 use Rattle.stp_problem.specs.Sizes.{size_of}
 use Rattle.stp_problem.specs.Nodes.{nodes, are_too_many, first_too_large}
 use Rattle.stp_refusal.specs.Phases.{unless_refused}
+
+-- what the items of `:init` say: facts and values, and events of the environment
+abbrev pub init_read : Known → Trees → Read (State × List PlainTimedItem)
+init_read k items = pair_read (λ facts timed. (facts, timed)) (facts_read k items) (timed_read k items)
 
 -- what a domain declares, and these objects
 abbrev pub known_with : PlainDomain → List Thing → Known
@@ -46,8 +52,8 @@ objects_phase d t = objects_read d.types d.constants (parts_phase d t).value.obj
 abbrev pub known_in : PlainDomain → Tree → Known
 known_in d t = known_with d (objects_phase d t).value
 
-abbrev pub facts_phase : PlainDomain → Tree → Read State
-facts_phase d t = facts_read (known_in d t) (parts_phase d t).value.init
+abbrev pub facts_phase : PlainDomain → Tree → Read (State × List PlainTimedItem)
+facts_phase d t = init_read (known_in d t) (parts_phase d t).value.init
 
 abbrev pub goal_phase : PlainDomain → Tree → Read Formula
 goal_phase d t = condition_read (known_in d t) (parts_phase d t).value.goal []
@@ -60,15 +66,16 @@ size_in d t = size_of d.parents (objects_phase d t).value
 abbrev pub phases : PlainDomain → Tree → List (List Offence)
 phases d t =
     (parts_phase d t).offences ∷ (objects_phase d t).offences ∷ (facts_phase d t).offences ∷ (goal_phase d t).offences
-    ∷ sizes_wrong (size_in d t) (parts_phase d t).value.goal_at (goal_phase d t).value d.schemas
+    ∷ (sizes_wrong (size_in d t) (parts_phase d t).value.goal_at (goal_phase d t).value d.schemas ++ events_wrong (facts_phase d t).value.1)
 
 -- the problem, where there is no offence
 abbrev pub problem_of_tree : PlainDomain → Tree → PlainProblem
 problem_of_tree d t = record {
   domain = d;
   objects = (objects_phase d t).value;
-  initial = (facts_phase d t).value.initial;
-  values = (facts_phase d t).value.values;
+  initial = (facts_phase d t).value.0.initial;
+  values = (facts_phase d t).value.0.values;
+  timed = events_of (facts_phase d t).value.1;
   goal = (goal_phase d t).value;
 }
 

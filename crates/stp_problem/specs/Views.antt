@@ -1,22 +1,38 @@
 -- What the structs of facts stand for.
 use Rattle.std.specs.Prelude.{ℕ, List, map}
 use Rattle.stp_text.specs.Tree.{views}
-use Rattle.stp_frac.specs.Fractions.{value_of}
+use Rattle.stp_frac.specs.Fractions.{Fraction, value_of}
 use Rattle.stp_schema.specs.declared.problem.Fact.{Fact}
 use Rattle.stp_schema.specs.declared.problem.Given.{Given}
 use Rattle.stp_schema.specs.declared.rows.ObjectRow.{ObjectRow}
 use Rattle.stp_schema.specs.Views.{fact_of, given_of}
 use Rattle.stp_tables.specs.Atoms.{Atom, atom_with}
 use Rattle.stp_problem.specs.declared.call.Call.{Call as WrittenCall}
+use Rattle.stp_problem.specs.declared.window.Window.{Window}
+use Rattle.stp_problem.specs.declared.written.WrittenLiteral.{WrittenLiteral as LiteralWritten}
+use Rattle.stp_problem.specs.declared.written.Telling.{Telling as EventTelling}
+use Rattle.stp_problem.specs.declared.written.Telling.TheVariants as events
 use Rattle.stp_problem.specs.declared.item.Item.{Item}
 use Rattle.stp_problem.specs.declared.item.Item.TheVariants as items
 use Rattle.stp_problem.specs.declared.facts.Facts.{Facts}
 use Rattle.stp_problem.specs.Calls.{Call, call_with}
+use Rattle.stp_problem.specs.Written.{WrittenLiteral, written_literal, Telling, Other, Wrong, Event}
 use Rattle.stp_problem.specs.Items.{Form, Holds, Denied, Value, Timed, Malformed}
 use Rattle.stp_problem.specs.Facts.{State}
 
 abbrev pub call_view : WrittenCall → Call
 call_view c = call_with c.at c.name.now (views c.args.now)
+
+abbrev pub literal_view : LiteralWritten → WrittenLiteral
+literal_view l = written_literal l.adds (call_view l.call)
+
+abbrev pub window_view : Window → Fraction × Fraction
+window_view w = (value_of w.low, value_of w.high)
+
+abbrev pub written_view : EventTelling → Telling
+written_view events.Other = Other
+written_view (events.Wrong code) = Wrong code
+written_view (events.Event window literals) = Event (value_of window.low) (value_of window.high) (views literals.now)
 
 abbrev pub form_view : Item → Form
 form_view (items.Holds call) = Holds (call_view call)

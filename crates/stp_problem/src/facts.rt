@@ -147,10 +147,7 @@ impl<'a> Found<'a> {
                 self.read_value(at, place, *value, first)?;
                 Ok(())
             }
-            Item::Timed => {
-                note(first, at, Code::P12);
-                Ok(())
-            }
+            Item::Timed => Ok(()),
             Item::Malformed => {
                 note(first, at, Code::P08);
                 Ok(())
@@ -182,7 +179,7 @@ impl<'a> Found<'a> {
 /// What the items of `:init` say: the facts in the order of the text, and each function's value once.
 ///
 /// Each offence is noted: items that do not match, predicates, functions and objects that are not declared, wrong
-/// arguments, second values, and timed literals.
+/// arguments, and second values. Items that tell events are passed over.
 pub fn read_facts<'a>(
     alloc: Global,
     arena: &'a Bump,

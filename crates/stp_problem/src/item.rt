@@ -1,18 +1,20 @@
 //! The forms of the items of `:init`.
 
-ghost use Rattle.std.specs.Prelude.{◌≡◌, option_map, bytes_eq, codes};
+ghost use Rattle.std.specs.Prelude.{◌≡◌, option_map};
 ghost use Rattle.stp_text.specs.Tree.{view, views};
 ghost use Rattle.stp_frac.specs.Fractions.{value_of};
-ghost use Rattle.stp_problem.specs.Items.{number_in, value_parts, denied_part, timed_part, value_form, denied_form, timed_form, atom_form, symbol_form, time_of, form_of};
+ghost use Rattle.stp_problem.specs.Items.{value_parts, value_form, denied_form, atom_form, symbol_form, form_of};
 ghost use Rattle.stp_problem.specs.Views.{call_view, form_view};
 
 use crate::call::{Call, call_of};
+use crate::window::number_in;
+use crate::written::{Telling, denied_part, list_written};
 use stp_condition::{Key, key_of};
 use stp_frac::Frac;
 use stp_text::{Sexpr, first_of, only};
 
-/// What an item says: an atom that is true, one that is not, a function's value, something that comes true at a time,
-/// or nothing of these.
+/// What an item says: an atom that is true, one that is not, a function's value, an event of the environment, or nothing
+/// of these.
 #[derive(Clone, Copy)]
 pub enum Item<'a> {
     Holds(Call<'a>),
@@ -20,17 +22,6 @@ pub enum Item<'a> {
     Value(Call<'a>, Frac),
     Timed,
     Malformed,
-}
-
-/// The number that a word spells.
-fn number_in(tree: &Sexpr<'_>) -> Option<Frac>
-    ensures { number_in (view tree.now) ≡ option_map value_of result }
-{
-    let text = tree.word()?;
-    match Frac::read(text) {
-        Ok(number) => Some(number),
-        Err(_) => None,
-    }
 }
 
 /// The atom and the number in `(= ATOM NUMBER)`, behind its first word.
@@ -42,25 +33,6 @@ fn value_parts<'a>(items: &'a [Sexpr<'a>]) -> Option<(Call<'a>, Frac)>
     let call = call_of(first)?;
     let number = number_in(last)?;
     Some((call, number))
-}
-
-/// The atom in `(not ATOM)`, behind its first word.
-fn denied_part<'a>(items: &'a [Sexpr<'a>]) -> Option<Call<'a>>
-    ensures { denied_part (views items.now) ≡ option_map call_view result }
-{
-    let item = only(items)?;
-    let call = call_of(item)?;
-    Some(call)
-}
-
-/// The time in `(at TIME LIST)`, behind its first word.
-fn timed_part<'a>(items: &'a [Sexpr<'a>]) -> Option<&'a Sexpr<'a>>
-    ensures { timed_part (views items.now) ≡ option_map (λ r. view r.now) result }
-{
-    let (first, rest) = first_of(items)?;
-    let last = only(rest)?;
-    let _inner = last.items()?;
-    Some(first)
 }
 
 /// The form of `(= ATOM NUMBER)`.
@@ -83,16 +55,6 @@ fn denied_form<'a>(items: &'a [Sexpr<'a>]) -> Item<'a>
     }
 }
 
-/// The form of `(at TIME LIST)`.
-fn timed_form<'a>(time: &Sexpr<'_>) -> Item<'a>
-    ensures { form_view result ≡ timed_form (view time.now) }
-{
-    match number_in(time) {
-        Some(_) => Item::Timed,
-        None => Item::Malformed,
-    }
-}
-
 /// The form of an atom.
 fn atom_form<'a>(tree: &'a Sexpr<'a>) -> Item<'a>
     ensures { form_view result ≡ atom_form (view tree.now) }
@@ -103,24 +65,13 @@ fn atom_form<'a>(tree: &'a Sexpr<'a>) -> Item<'a>
     }
 }
 
-/// The time of a list that begins with this word, where it is one of `(at TIME LIST)`.
-fn time_of<'a>(name: &[u8], items: &'a [Sexpr<'a>]) -> Option<&'a Sexpr<'a>>
-    ensures { time_of name.now (views items.now) ≡ option_map (λ r. view r.now) result }
-{
-    if name != b"at".as_slice() {
-        return None;
-    }
-    let time = timed_part(items)?;
-    Some(time)
-}
-
 /// The form of a list that begins with a word that may begin an atom.
 fn symbol_form<'a>(name: &[u8], items: &'a [Sexpr<'a>], tree: &'a Sexpr<'a>) -> Item<'a>
     ensures { form_view result ≡ symbol_form name.now (views items.now) (view tree.now) }
 {
-    match time_of(name, items) {
-        Some(time) => timed_form(time),
-        None => atom_form(tree),
+    match list_written(name, items) {
+        Telling::Other => atom_form(tree),
+        _ => Item::Timed,
     }
 }
 

@@ -11,7 +11,7 @@ ghost use Rattle.stp_condition.specs.Conditions.{condition_read};
 ghost use Rattle.stp_problem.specs.Reading.{problem_or_refusal};
 
 use crate::sizing::judge_sizes;
-use crate::{read_facts, read_objects};
+use crate::{read_events, read_facts, read_objects, read_timed};
 use bumpalo::Bump;
 use std::alloc::Global;
 use stp_base::Memory;
@@ -41,8 +41,8 @@ fn read_goal<'a>(
 }
 
 /// The problem of a tree, for this domain, or its one refusal: of the earliest phase with an offence, the one of the
-/// least place, and there the one of the least code. The phases are sections; objects; facts and values; the goal; its
-/// size; the sizes of the actions, whose places are their numbers.
+/// least place, and there the one of the least code. The phases are sections; objects; facts, values and events; the goal;
+/// its size; the sizes of the actions, whose places are their numbers; the times of timed literals; the other events.
 pub fn read_problem<'a>(
     alloc: Global,
     arena: &'a Bump,
@@ -69,16 +69,19 @@ pub fn read_problem<'a>(
     end_phase(in_objects)?;
     let mut in_facts = None;
     let facts = read_facts(alloc, arena, declared, &objects, parts.init, &mut in_facts)?;
+    let items = read_timed(alloc, arena, declared, &objects, parts.init, &mut in_facts)?;
     end_phase(in_facts)?;
     let mut in_goal = None;
     let goal = read_goal(alloc, arena, declared, &objects, parts.goal, &mut in_goal)?;
     end_phase(in_goal)?;
     judge_sizes(alloc, &domain, &objects, parts.goal_at, goal)?;
+    let timed = read_events(alloc, arena, items.as_slice())?;
     Ok(Problem {
         domain,
         objects: objects.rows,
         initial: facts.initial,
         values: facts.values,
+        timed,
         goal,
         object_names: objects.names,
     })

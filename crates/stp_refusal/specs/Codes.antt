@@ -1,7 +1,7 @@
 -- The codes of refusals in their order.
 use Rattle.std.specs.Prelude.{ℕ}
 use Rattle.stp_refusal.specs.declared.code.Code.{Code}
-use Rattle.stp_refusal.specs.declared.code.Code.TheVariants.{F01, T01, T02, T03, T04, T05, T06, D01, D02, D03, D04, D05, D06, D07, D08, D09, D10, D11, D12, D13, D14, D15, D16, D17, D18, D19, D20, D21, D22, D23, D24, P01, P02, P03, P04, P05, P06, P07, P08, P09, P10, P11, P12, P13, P14, L01, L02, X01, X02, X03, X04, X05, X06, X07, X08, X09, X10, X11, V01, V02, V03, V04, G01, G02, G03, G04, G05, G06, R01, R02, R03, N00}
+use Rattle.stp_refusal.specs.declared.code.Code.TheVariants.{F01, T01, T02, T03, T04, T05, T06, D01, D02, D03, D04, D05, D06, D07, D08, D09, D10, D11, D12, D13, D14, D15, D16, D17, D18, D19, D20, D21, D22, D23, D24, P01, P02, P03, P04, P05, P06, P07, P08, P09, P10, P11, P12, P13, P14, P15, P16, P17, L01, L02, X01, X02, X03, X04, X05, X06, X07, X08, X09, X10, X11, V01, V02, V03, V04, G01, G02, G03, G04, G05, G06, G07, R01, R02, R03, N00}
 
 -- the place of a code among all codes
 abbrev pub rank_of : Code → ℕ
@@ -50,30 +50,34 @@ rank_of P11 = 41
 rank_of P12 = 42
 rank_of P13 = 43
 rank_of P14 = 44
-rank_of L01 = 45
-rank_of L02 = 46
-rank_of X01 = 47
-rank_of X02 = 48
-rank_of X03 = 49
-rank_of X04 = 50
-rank_of X05 = 51
-rank_of X06 = 52
-rank_of X07 = 53
-rank_of X08 = 54
-rank_of X09 = 55
-rank_of X10 = 56
-rank_of X11 = 57
-rank_of V01 = 58
-rank_of V02 = 59
-rank_of V03 = 60
-rank_of V04 = 61
-rank_of G01 = 62
-rank_of G02 = 63
-rank_of G03 = 64
-rank_of G04 = 65
-rank_of G05 = 66
-rank_of G06 = 67
-rank_of R01 = 68
-rank_of R02 = 69
-rank_of R03 = 70
-rank_of N00 = 71
+rank_of P15 = 45
+rank_of P16 = 46
+rank_of P17 = 47
+rank_of L01 = 48
+rank_of L02 = 49
+rank_of X01 = 50
+rank_of X02 = 51
+rank_of X03 = 52
+rank_of X04 = 53
+rank_of X05 = 54
+rank_of X06 = 55
+rank_of X07 = 56
+rank_of X08 = 57
+rank_of X09 = 58
+rank_of X10 = 59
+rank_of X11 = 60
+rank_of V01 = 61
+rank_of V02 = 62
+rank_of V03 = 63
+rank_of V04 = 64
+rank_of G01 = 65
+rank_of G02 = 66
+rank_of G03 = 67
+rank_of G04 = 68
+rank_of G05 = 69
+rank_of G06 = 70
+rank_of G07 = 71
+rank_of R01 = 72
+rank_of R02 = 73
+rank_of R03 = 74
+rank_of N00 = 75

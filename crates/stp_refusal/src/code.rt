@@ -90,12 +90,18 @@ pub enum Code {
     P10,
     /// A function with two values.
     P11,
-    /// A timed literal.
+    /// A malformed timed literal.
     P12,
     /// A goal that is too large.
     P13,
     /// A schema whose conditions are too large.
     P14,
+    /// Too many moments of timed literals.
+    P15,
+    /// A malformed uncontrollable event.
+    P16,
+    /// Too many uncontrollable events.
+    P17,
     /// A line of a plan that is no step.
     L01,
     /// Too many steps.
@@ -142,6 +148,8 @@ pub enum Code {
     G05,
     /// Durations whose common grid is too fine.
     G06,
+    /// An uncontrollable event where a plan is wanted.
+    G07,
     /// Too many footprints at one formula.
     R01,
     /// Expanded conditions that are too large.

@@ -1,15 +1,14 @@
 -- The moments of faults are moments of their run.
-use Rattle.std.proofs.Common.{◌≡◌, ℕ, ◌*◌, ◌≤◌, max, Bool, true, false, if◌then◌else◌, List, [], ◌∷◌, ◌++◌, map, All, Contains, Option, Some, None, arith}
+use Rattle.std.proofs.Common.{ℕ, ◌*◌, ◌≤◌, max, Bool, true, false, if◌then◌else◌, List, [], ◌∷◌, ◌++◌, All, Option, Some, None, arith}
 use Rattle.std.specs.Prelude.{IfSome}
 use Rattle.std.specs.List.{cons_option, filter_map, flat_map}
 use Rattle.std.proofs.Math.Logic.{∥∥₁_elim}
 use Rattle.std.proofs.Props.{props}
 use Rattle.std.proofs.lemmas.List.Elements.{All-nil, All-cons, All-head, All-tail, All-append, All-contains, All-map, All-weaker}
+use Rattle.stp_base.specs.declared.limits.TheConstants.{MAX_TIME}
 use Rattle.stp_happen.specs.declared.fault.Fault.{Fault}
 use Rattle.stp_happen.specs.declared.fault.Fault.TheVariants.{Overlap, Interference, Condition, OverAll, Goal}
 use Rattle.stp_happen.specs.declared.run.Run.{Run}
-use Rattle.stp_happen.specs.declared.run.Entry.{Entry}
-use Rattle.stp_happen.specs.declared.run.Span.{Span}
 use Rattle.stp_happen.specs.Plain.{PlainEntry, PlainSpan, PlainRun, before, after, at_end}
 use Rattle.stp_happen.specs.Views.{entry_of, span_of}
 use Rattle.stp_happen.specs.Runs.{plain_run}
@@ -94,7 +93,7 @@ module _ (grid : ℕ) where
 entry_times : (run : Run) → All (λ (e : PlainEntry). IsTime run.grid e.time) (plain_run run).entries
 entry_times run = All-map (λ (e : PlainEntry). IsTime run.grid e.time) entry_of run.entries (∥∥₁_elim run.sound (Prim.hlevel props) (λ s k d h. (s.entries_in_range k d h).time))
 
-starts_within : (grid from to : ℕ) → from ≤ to → to ≤ 999999999 * grid → IsTime grid from
+starts_within : (grid from to : ℕ) → from ≤ to → to ≤ MAX_TIME * grid → IsTime grid from
 starts_within grid from to up high = omega arith
 
 span_times : (run : Run) → All (λ (s : PlainSpan). IsTime run.grid s.from) (plain_run run).spans

@@ -16,7 +16,7 @@ use Rattle.stp_happen.specs.Views.{entry_of, span_of}
 use Rattle.stp_happen.proofs.Ascending.{ascending_map}
 use Rattle.stp_happen.proofs.OneList.{one_list}
 use Rattle.stp_report.specs.declared.answer.Answer.TheVariants.{Replay}
-use Rattle.stp_report.specs.Texts.{line, time_text, kind_in, entry_lines, ending_line, text_of}
+use Rattle.stp_report.specs.Texts.{line, time_text, outer_text, kind_in, entry_lines, ending_line, text_of}
 use Rattle.stp_report.specs.OneText.{ReplaysHaveOneText}
 
 -- ---- one order
@@ -38,7 +38,7 @@ same_entries run other plain h k =
 -- ---- the lines, of plain entries and spans
 
 plain_kind : ℕ → ℕ → List PlainSpan → List ℕ
-plain_kind time step [] = codes "moment"
+plain_kind time step [] = outer_text step
 plain_kind time step (s ∷ ss) =
     if s.step == step
     then (if s.from == s.to then codes "moment" else (if time == s.from then codes "start" else codes "end"))

@@ -1,5 +1,5 @@
 -- Times on a grid are in the range of fractions.
-use Rattle.std.proofs.Common.{◌≡◌, ℕ, ◌*◌, ◌/◌, ◌<◌, ◌≤◌, ◌^◌, true, List, Option, pos, Some, None, refl, ap, ◌∙◌, arith, div-le_self}
+use Rattle.std.proofs.Common.{◌≡◌, ℕ, ◌/◌, ◌≤◌, true, Option, pos, Some, None, refl, ap, ◌∙◌, arith, div-le_self}
 use Rattle.std.proofs.lemmas.Bool.Decides.{nat_tests}
 use Rattle.stp_frac.specs.Divisors.{gcd}
 use Rattle.stp_frac.specs.Fractions.{Fraction, lowest, fraction, is_in_range}

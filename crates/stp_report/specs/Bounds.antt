@@ -1,5 +1,6 @@
 -- The times that are printed are on their grid: of 1 to 999,999,999 parts, and at most 999,999,999 units.
 use Rattle.std.specs.Prelude.{ℕ, ◌≤◌, ◌*◌, List, All, Option, IfSome}
+use Rattle.stp_base.specs.declared.limits.TheConstants.{MAX_GRID, MAX_TIME}
 use Rattle.stp_happen.specs.declared.fault.Fault.{Fault}
 use Rattle.stp_happen.specs.declared.fault.Fault.TheVariants as faults
 use Rattle.stp_happen.specs.declared.run.Run.{Run}
@@ -10,10 +11,10 @@ use Rattle.stp_report.specs.declared.answer.Answer.TheVariants as answers
 
 pub record IsGrid (grid : ℕ) : Type 0 where
   pub low : 1 ≤ grid
-  pub high : grid ≤ 999999999
+  pub high : grid ≤ MAX_GRID
 
 abbrev pub IsTime : ℕ → ℕ → Type 0
-IsTime grid time = time ≤ 999999999 * grid
+IsTime grid time = time ≤ MAX_TIME * grid
 
 abbrev pub IsFaultTime : ℕ → Fault → Type 0
 IsFaultTime grid (faults.Overlap time first second) = IsTime grid time
@@ -29,7 +30,7 @@ pub record AreWeakTimes (grid : ℕ) (durations : List ℕ) (fault : Fault) : Ty
 
 -- what an answer needs that it can be printed: a run's own moments are always within
 abbrev pub AreTimes : Answer → Type 0
-AreTimes (answers.Strong steps uncertain grid) = Unit {0}
+AreTimes (answers.Strong steps uncertain events grid) = Unit {0}
 AreTimes (answers.Weak grid durations fault) = AreWeakTimes grid durations.now fault
 AreTimes (answers.Replay run fault) = IfSome fault (IsFaultTime run.now.grid)
 AreTimes (answers.Refused file code at) = Unit {0}

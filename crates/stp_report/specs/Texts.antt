@@ -70,6 +70,9 @@ code_text code.P11 = codes "P11"
 code_text code.P12 = codes "P12"
 code_text code.P13 = codes "P13"
 code_text code.P14 = codes "P14"
+code_text code.P15 = codes "P15"
+code_text code.P16 = codes "P16"
+code_text code.P17 = codes "P17"
 code_text code.L01 = codes "L01"
 code_text code.L02 = codes "L02"
 code_text code.X01 = codes "X01"
@@ -93,6 +96,7 @@ code_text code.G03 = codes "G03"
 code_text code.G04 = codes "G04"
 code_text code.G05 = codes "G05"
 code_text code.G06 = codes "G06"
+code_text code.G07 = codes "G07"
 code_text code.R01 = codes "R01"
 code_text code.R02 = codes "R02"
 code_text code.R03 = codes "R03"
@@ -141,9 +145,13 @@ durations_text grid (d ∷ ds) = time_text grid d ++ further_text grid ds
 abbrev pub kind_text : ℕ → Span → List ℕ
 kind_text time s = if s.from == s.to then codes "moment" else (if time == s.from then codes "start" else codes "end")
 
--- what an event of a step is, by the spans of all steps
+-- what an event of the environment is, which has no span: one at a fixed moment has the number 0
+abbrev pub outer_text : ℕ → List ℕ
+outer_text number = if number == 0 then codes "timed" else codes "event"
+
+-- what an event of this number is, by the spans of all steps
 abbrev pub kind_in : ℕ → ℕ → List Span → List ℕ
-kind_in time step [] = codes "moment"
+kind_in time step [] = outer_text step
 kind_in time step (s ∷ ss) = if s.step.0 == step then kind_text time s else kind_in time step ss
 
 abbrev pub entry_line : ℕ → List Span → Entry → List ℕ
@@ -157,10 +165,20 @@ abbrev pub ending_line : ℕ → Option Fault → List ℕ
 ending_line grid None = line (codes "executes")
 ending_line grid (Some fault) = fault_line grid fault
 
+-- ---- strong plans
+
+-- how many events have a moment that is chosen, where there are any
+abbrev pub events_text : ℕ → List ℕ
+events_text events = if events == 0 then [] else codes " events " ++ decimal events
+
+abbrev pub strong_line : ℕ → ℕ → ℕ → ℕ → List ℕ
+strong_line steps uncertain events grid =
+    line (codes "steps " ++ decimal steps ++ codes " uncertain " ++ decimal uncertain ++ events_text events ++ codes " grid " ++ decimal grid)
+
 -- ---- what is printed
 
 abbrev pub text_of : Answer → List ℕ
-text_of (answers.Strong steps uncertain grid) = line (codes "strong") ++ line (codes "steps " ++ decimal steps ++ codes " uncertain " ++ decimal uncertain ++ codes " grid " ++ decimal grid)
+text_of (answers.Strong steps uncertain events grid) = line (codes "strong") ++ strong_line steps uncertain events grid
 text_of (answers.Weak grid durations fault) = line (codes "not strong") ++ line (codes "durations " ++ durations_text grid durations.now) ++ fault_line grid fault
 text_of (answers.Replay run fault) = entry_lines run.now.grid run.now.spans run.now.entries ++ ending_line run.now.grid fault
 text_of (answers.Refused file code at) = line (codes "refused " ++ file_text file ++ codes " " ++ code_text code ++ codes " at " ++ decimal at)

@@ -16,13 +16,15 @@ pub enum FileName {
 /// long than the formulas that it points to.
 #[derive(Clone, Copy)]
 pub enum Answer<'r, 'a> {
-    /// The plan has so many steps, so many of them uncertain, and this base grid, and is strong.
+    /// The plan has so many steps, so many of them uncertain, so many events whose moment is chosen, and this base
+    /// grid, and is strong.
     Strong {
         steps: u32,
         uncertain: u32,
+        events: u32,
         grid: u128,
     },
-    /// The plan is not strong: under these durations its run has this first fault.
+    /// The plan is not strong: under these durations and moments its run has this first fault.
     Weak {
         grid: u128,
         durations: &'r [u128],

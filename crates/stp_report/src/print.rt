@@ -2,7 +2,7 @@
 
 ghost use Rattle.std.specs.Prelude.{◌≡◌, ◌++◌, codes, All, IfOk, OnOk};
 ghost use Rattle.std.specs.Fmt.{decimal};
-ghost use Rattle.stp_report.specs.Texts.{line, text_of, file_text, code_text, further_text, durations_text, fault_line};
+ghost use Rattle.stp_report.specs.Texts.{line, text_of, file_text, code_text, further_text, durations_text, events_text, fault_line, strong_line};
 ghost use Rattle.stp_report.specs.Bounds.{IsGrid, IsTime, IsFaultTime, AreTimes};
 
 use crate::answer::{Answer, FileName};
@@ -55,21 +55,32 @@ fn push_durations(grid: u128, durations: &[u128], out: &mut Text) -> Result<(), 
     }
 }
 
+/// Appends how many events have a moment that is chosen, where there are any.
+fn push_events(alloc: Global, events: u32, out: &mut Text) -> Result<(), Memory>
+    ensures { OnOk result (out.new ≡ out.old ++ events_text events) }
+{
+    if events == 0 {
+        return Ok(());
+    }
+    push_words(" events ", out)?;
+    push_number(alloc, events, out)
+}
+
 /// Appends that a plan is strong.
 fn push_strong(
     alloc: Global,
     steps: u32,
     uncertain: u32,
+    events: u32,
     grid: u128,
     out: &mut Text,
 ) -> Result<(), Memory>
-    ensures { OnOk result
-        (out.new
-        ≡ out.old
-        ++ line (codes "strong")
-        ++ line (codes "steps " ++ decimal steps ++ codes " uncertain " ++ decimal uncertain ++ codes " grid " ++ decimal grid)) }
+    ensures { OnOk result (out.new ≡ out.old ++ line (codes "strong") ++ strong_line steps uncertain events grid) }
 {
-    let words = format!(in alloc; "strong\nsteps {steps} uncertain {uncertain} grid {grid}\n")?;
+    let words = format!(in alloc; "strong\nsteps {steps} uncertain {uncertain}")?;
+    out.push(words.as_bytes())?;
+    push_events(alloc, events, out)?;
+    let words = format!(in alloc; " grid {grid}\n")?;
     out.push(words.as_bytes())
 }
 
@@ -149,8 +160,9 @@ fn push_answer(alloc: Global, answer: &Answer<'_, '_>, out: &mut Text) -> Result
         Answer::Strong {
             steps,
             uncertain,
+            events,
             grid,
-        } => push_strong(alloc, *steps, *uncertain, *grid, out),
+        } => push_strong(alloc, *steps, *uncertain, *events, *grid, out),
         Answer::Weak {
             grid,
             durations,

@@ -1,7 +1,7 @@
 //! The text of a run.
 
 ghost use Rattle.std.specs.Prelude.{◌≡◌, ◌++◌, All, IfSome, OnOk};
-ghost use Rattle.stp_report.specs.Texts.{kind_text, kind_in, entry_line, entry_lines, ending_line};
+ghost use Rattle.stp_report.specs.Texts.{kind_text, kind_in, outer_text, entry_line, entry_lines, ending_line};
 ghost use Rattle.stp_report.specs.Bounds.{IsGrid, IsTime, IsFaultTime};
 
 use crate::fault::push_fault_line;
@@ -23,7 +23,14 @@ fn kind_word(time: u128, span: &Span<'_>) -> &'static str
     }
 }
 
-/// What an event of a step is, by the spans of all steps.
+/// What an event of the environment is.
+fn outer_word(number: StepId) -> &'static str
+    ensures { result.now ≡ outer_text number.0 }
+{
+    if number.0 == 0 { "timed" } else { "event" }
+}
+
+/// What an event of this number is, by the spans of all steps.
 fn kind_among(time: u128, step: StepId, spans: &[Span<'_>]) -> &'static str
     ensures { result.now ≡ kind_in time step.0 spans.now }
 {
@@ -32,7 +39,7 @@ fn kind_among(time: u128, step: StepId, spans: &[Span<'_>]) -> &'static str
             return kind_word(time, span);
         }
     }
-    "moment"
+    outer_word(step)
 }
 
 /// Appends the line of an event.

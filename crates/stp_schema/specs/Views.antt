@@ -8,6 +8,7 @@ use Rattle.stp_schema.specs.declared.problem.Problem.{Problem}
 use Rattle.stp_schema.specs.Rows.{Shape, Thing, type_names_of, parents_of, shape_of, thing_of}
 use Rattle.stp_schema.specs.Formula.{Formula, formula}
 use Rattle.stp_schema.specs.Schemas.{PlainSchema, schema_of}
+use Rattle.stp_schema.specs.Timed.{PlainTimedFact, timed_facts_of}
 
 pub record PlainDomain : Type 0 where
   pub name : List ℕ
@@ -51,6 +52,7 @@ pub record PlainProblem : Type 0 where
   pub objects : List Thing
   pub initial : List PlainFact
   pub values : List PlainGiven
+  pub timed : List PlainTimedFact
   pub goal : Formula
 
 abbrev pub problem_of : Problem → PlainProblem
@@ -59,5 +61,6 @@ problem_of p = record {
   objects = map thing_of p.objects.now;
   initial = map fact_of p.initial.now;
   values = map given_of p.values.now;
+  timed = timed_facts_of p.timed.now;
   goal = formula p.goal.now;
 }

@@ -7,6 +7,7 @@ pub mod expr;
 pub mod lifted;
 pub mod problem;
 pub mod rows;
+pub mod timed;
 
 pub use declared::{Declared, Objects};
 pub use domain::{Domain, Schema, Timing};
@@ -16,3 +17,4 @@ pub use problem::{Fact, Given, Problem};
 pub use rows::{ObjectRow, Symbol, TypeRow};
 pub use stp_refusal::Code;
 pub use stp_tables::Names;
+pub use timed::{TimedFact, TimedLiteral};

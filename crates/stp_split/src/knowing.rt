@@ -7,7 +7,7 @@ ghost use Rattle.stp_cond.specs.Events.{IsEventInRange};
 ghost use Rattle.stp_cond.specs.Folded.{known_of};
 ghost use Rattle.stp_cond.specs.Truth.{is_below, state_of_row};
 ghost use Rattle.stp_cond.specs.Views.{atoms_of};
-ghost use Rattle.stp_split.specs.Known.{IsKnownRow};
+ghost use Rattle.stp_split.specs.Known.{IsKeptRow, IsKnownRow};
 ghost use Rattle.stp_window.specs.Views.{points_of};
 
 use std::alloc::Global;
@@ -50,6 +50,7 @@ pub fn known_row(alloc: Global, ends: &[Window<'_>], row: &StateRow) -> Result<V
     requires { All (λ w. IsEventInRange (length row.now) w.event) ends.now }
     ensures len { IfOk result (λ r. length r.items ≡ length row.now) }
     ensures known { IfOk result (λ r. IsKnownRow r.items (points_of ends.now) (state_of_row row.now)) }
+    ensures kept { IfOk result (λ r. IsKeptRow r.items (points_of ends.now) (length row.now) (state_of_row row.now)) }
 {
     let mut known = known_values(alloc, row)?;
     for end in ends {
@@ -59,10 +60,11 @@ pub fn known_row(alloc: Global, ends: &[Window<'_>], row: &StateRow) -> Result<V
     Ok(known)
 }
 
-/// Whether what is known of atoms tells that a formula holds, whichever ends have come.
+/// Whether what is known of atoms decides that a formula holds.
 pub fn is_known_to_hold(cond: &Cond<'_>, known: &[Three]) -> bool
     requires { is_below (length known.now) cond.now ≡ true }
-    ensures { result ≡ true → decided (known_of known.now) cond.now ≡ Three.Yes }
+    ensures holds { result ≡ true → decided (known_of known.now) cond.now ≡ Three.Yes }
+    ensures told { decided (known_of known.now) cond.now ≡ Three.Yes → result ≡ true }
 {
     matches!(decide(cond, known), Three::Yes)
 }

@@ -2,29 +2,14 @@
 
 ghost use Rattle.std.specs.Prelude.{◌≡◌, ◌<◌, true, not, length, drop, map, Contains, IfSome, MatchOption};
 ghost use Rattle.std.specs.List.{list_all};
-ghost use Rattle.stp_cond.specs.Atoms.{has};
-ghost use Rattle.stp_cond.specs.Events.{event_of};
 ghost use Rattle.stp_cond.specs.Truth.{all_of, is_below, reads_only, state_of_row};
 ghost use Rattle.stp_split.specs.Cases.{IsShared, ShareNone, turns_at};
 ghost use Rattle.stp_window.specs.Views.{point_of, points_of};
 
 use stp_base::{AtomId, StateRow};
-use stp_cond::{Cond, Event, is_among};
+use stp_cond::Cond;
 use stp_window::Window;
-
-/// Whether an event adds an atom.
-fn adds(event: &Event<'_>, atom: AtomId) -> bool
-    ensures { result ≡ has (event_of event.now).adds atom.0 }
-{
-    is_among(event.adds, atom)
-}
-
-/// Whether an event deletes an atom.
-fn deletes(event: &Event<'_>, atom: AtomId) -> bool
-    ensures { result ≡ has (event_of event.now).dels atom.0 }
-{
-    is_among(event.dels, atom)
-}
+use stp_window::writing::{adds, deletes};
 
 /// Whether an end writes the value that an atom does not have in a row.
 pub(crate) fn changes(end: &Window<'_>, atom: AtomId, row: &StateRow) -> bool

@@ -2,9 +2,10 @@
 use Rattle.std.proofs.Common.{◌≡◌, ℕ, ◌<◌, ◌≤◌, nat_lt, nat_le, Bool, true, false, ◌&&◌, ◌||◌, cond, List, [], ◌∷◌, ◌==◌, eq-eqb, map, filter, Contains, ◌⊎◌, inl, inr, refl, ap, sym, ◌∙◌, subst, arith}
 use mathlib.Core.Path.{fun_ext}
 use Rattle.std.proofs.lemmas.Bool.Decides.{nat_tests}
+use Rattle.stp_cond.specs.Atoms.{ReadsAlone}
 use Rattle.stp_happen.specs.Plain.{state_after, before, after, at_end}
 use Rattle.stp_happen.proofs.Members.{any_passes, each_of, all_of, kept_alike}
-use Rattle.stp_window.specs.Windows.{Point, WindowBox, run_when, entry_at, IsInWindow, IsChoice, IsProper, ReadsAlone}
+use Rattle.stp_window.specs.Windows.{Point, WindowBox, run_when, entry_at, IsInWindow, IsChoice, IsProper}
 use Rattle.stp_window.specs.States.{left_by, certain_before, came_by, state_at, at_last}
 use Rattle.stp_strength.specs.Choices.{corner}
 use Rattle.stp_window.specs.Certain.{sets}

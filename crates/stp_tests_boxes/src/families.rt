@@ -95,7 +95,7 @@ fn is_found(alloc: Global, boxed: &BoxRun<'_>, factor: u128, strong: bool) -> Re
 }
 
 /// Whether the plain check, and all vectors on the grid and on finer ones, give this verdict.
-fn is_judged(alloc: Global, boxed: &BoxRun<'_>, strong: bool) -> Result<bool, Memory>
+pub fn is_judged(alloc: Global, boxed: &BoxRun<'_>, strong: bool) -> Result<bool, Memory>
     requires { boxed.now.grid ≤ 12 }
 {
     let owned = by_owners(alloc, boxed)?;

@@ -3,6 +3,8 @@
 #![tactic(auto)]
 
 #[cfg(test)]
+mod environment;
+#[cfg(test)]
 mod events;
 #[cfg(test)]
 mod families;

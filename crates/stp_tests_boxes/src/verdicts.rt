@@ -14,7 +14,11 @@ use stp_happen::{BoxRun, by_owners};
 use stp_least::least_failure;
 
 /// Whether a box is found to fail first at these durations, or to be strong where there are none.
-fn is_found(alloc: Global, boxed: &BoxRun<'_>, failure: Option<&[u128]>) -> Result<bool, Memory> {
+pub fn is_found(
+    alloc: Global,
+    boxed: &BoxRun<'_>,
+    failure: Option<&[u128]>,
+) -> Result<bool, Memory> {
     let verdict = strong(alloc, boxed)?;
     let least = least_failure(alloc, boxed)?;
     if matches!(verdict, Verdict::Strong) != failure.is_none() {
@@ -33,15 +37,20 @@ fn case_is(alloc: Global, case: Case, failure: Option<&[u128]>) -> Result<bool, 
     is_found(alloc, &boxed, failure)
 }
 
+/// Whether a box is found to fail first at the first of all vectors that fail.
+pub fn is_right(alloc: Global, boxed: &BoxRun<'_>) -> Result<bool, Memory> {
+    let owned = by_owners(alloc, boxed)?;
+    match first_failing(alloc, &owned, 0, &[])? {
+        None => is_found(alloc, boxed, None),
+        Some(first) => is_found(alloc, boxed, Some(first.as_slice())),
+    }
+}
+
 /// Whether a case is found to fail first at the first of all vectors that fail.
-fn is_right(alloc: Global, case: Case) -> Result<bool, Memory> {
+fn case_is_right(alloc: Global, case: Case) -> Result<bool, Memory> {
     let arena = Bump::new(alloc);
     let boxed = boxed(alloc, &arena, case)?;
-    let owned = by_owners(alloc, &boxed)?;
-    match first_failing(alloc, &owned, 0, &[])? {
-        None => is_found(alloc, &boxed, None),
-        Some(first) => is_found(alloc, &boxed, Some(first.as_slice())),
-    }
+    is_right(alloc, &boxed)
 }
 
 #[test]
@@ -118,7 +127,10 @@ fn least_failures_of_crowds(rt: HostRuntime) {
             for at in 0..5u8 {
                 for f in [true, false] {
                     let case = crowd(f, at, effect, over);
-                    assert!(rt; matches!(is_right(rt.alloc(), case), Ok(true)), "at {at}");
+                    assert!(rt;
+                        matches!(case_is_right(rt.alloc(), case), Ok(true)),
+                        "at {at}"
+                    );
                 }
             }
         }

@@ -24,12 +24,12 @@ fn four_steps() -> Case {
 }
 
 /// Whether two points of the box are there and may meet.
-fn are_met(boxed: &BoxRun<'_>, one: PointOf, other: PointOf) -> bool {
+pub fn are_met(boxed: &BoxRun<'_>, one: PointOf, other: PointOf) -> bool {
     is_there(boxed, one) && is_there(boxed, other) && may_meet(boxed, one, other)
 }
 
 /// Whether this is certain of an atom at a moment. The box is strong, so no opposite writers may meet.
-fn is_certain(
+pub fn is_certain(
     alloc: Global,
     boxed: &BoxRun<'_>,
     atom: AtomId,
@@ -44,7 +44,7 @@ fn is_certain(
 }
 
 /// Whether these are the unsettled steps at a moment.
-fn are_unsettled(
+pub fn are_unsettled(
     alloc: Global,
     boxed: &BoxRun<'_>,
     time: u128,

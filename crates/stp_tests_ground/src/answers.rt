@@ -12,9 +12,19 @@ fn answers_have_their_texts(rt: HostRuntime) -> Result<(), Fail> {
             Answer::Strong {
                 steps: 4,
                 uncertain: 2,
+                events: 0,
                 grid: 2,
             },
             "strong\nsteps 4 uncertain 2 grid 2\n",
+        ),
+        (
+            Answer::Strong {
+                steps: 1,
+                uncertain: 0,
+                events: 2,
+                grid: 1,
+            },
+            "strong\nsteps 1 uncertain 0 events 2 grid 1\n",
         ),
         (
             Answer::Weak {

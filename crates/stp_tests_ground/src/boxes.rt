@@ -54,7 +54,7 @@ fn is_box(boxed: &BoxRun<'_>, grid: u128, rows: &[Row]) -> bool {
 }
 
 /// The box of a plan's text; want of memory where that is no plan.
-fn boxed<'a>(
+pub fn boxed<'a>(
     alloc: Global,
     arena: &'a Bump,
     problem: &'a Problem<'a>,

@@ -12,7 +12,7 @@ use stp_tables::AtomTable;
 use stp_task::GroundAction;
 
 /// Appends a number of one digit.
-fn push_digit(out: &mut Text, number: u32) -> Result<(), Memory> {
+pub fn push_digit(out: &mut Text, number: u32) -> Result<(), Memory> {
     out.push(&[b'0' + (number % 10) as u8])
 }
 
@@ -36,7 +36,7 @@ fn push_all(out: &mut Text, word: &[u8], parts: &[Cond<'_>]) -> Result<(), Memor
 
 /// Appends a formula.
 #[cycle(push)]
-fn push_formula(out: &mut Text, cond: &Cond<'_>) -> Result<(), Memory> {
+pub fn push_formula(out: &mut Text, cond: &Cond<'_>) -> Result<(), Memory> {
     match cond {
         Cond::True => out.push(b"T"),
         Cond::False => out.push(b"F"),
@@ -51,7 +51,7 @@ fn push_formula(out: &mut Text, cond: &Cond<'_>) -> Result<(), Memory> {
 }
 
 /// Appends an event: what it needs, reads, adds and deletes.
-fn push_event(out: &mut Text, event: &Event<'_>) -> Result<(), Memory> {
+pub fn push_event(out: &mut Text, event: &Event<'_>) -> Result<(), Memory> {
     push_formula(out, event.cond)?;
     out.push(b";")?;
     push_atoms(out, event.reads)?;

@@ -9,6 +9,10 @@ mod boxes;
 #[cfg(test)]
 mod durations;
 #[cfg(test)]
+mod events;
+#[cfg(test)]
+mod fitting;
+#[cfg(test)]
 mod instances;
 #[cfg(test)]
 mod lists;

@@ -111,7 +111,7 @@ fn refused_files(rt: HostRuntime) -> Result<(), Fail> {
         ),
         (
             LAB,
-            b"(define (problem y) (:domain lab) (:init (at 5 (f))) (:goal (and)))",
+            b"(define (problem y) (:domain lab) (:init (at -1 (f))) (:goal (and)))",
             b"refused problem P12 at 41\n",
         ),
         (

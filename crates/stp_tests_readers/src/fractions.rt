@@ -3,7 +3,6 @@
 use std::alloc::Global;
 use std::cmp::Ordering;
 use stp_base::{Memory, Text};
-use stp_frac::units::units;
 use stp_frac::{Frac, NumberFault};
 
 /// The number that a text spells.
@@ -264,27 +263,4 @@ fn grids(rt: HostRuntime) {
     assert!(rt; come_from_grids());
     assert!(rt; are_whole() == Some(true));
     assert!(rt; grids_are_joined() == Some(true));
-}
-
-const UNITS: [(&str, Option<u32>); 13] = [
-    ("4", Some(4)),
-    ("007", Some(7)),
-    ("4.0", Some(4)),
-    ("8/2", Some(4)),
-    ("-0", Some(0)),
-    ("999999999", Some(999_999_999)),
-    ("1999999998/2", Some(999_999_999)),
-    ("1000000000/1", None),
-    ("1000000000", None),
-    ("1/2", None),
-    ("-1", None),
-    ("x", None),
-    ("", None),
-];
-
-#[test]
-fn whole_units(rt: HostRuntime) {
-    for (text, wanted) in UNITS.iter() {
-        assert!(rt; units(text.as_bytes()) == *wanted, "{text}");
-    }
 }

@@ -11,9 +11,13 @@ mod conditions;
 #[cfg(test)]
 mod domains;
 #[cfg(test)]
+mod events;
+#[cfg(test)]
 mod facts;
 #[cfg(test)]
 mod fractions;
+#[cfg(test)]
+mod many_events;
 #[cfg(test)]
 mod nodes;
 #[cfg(test)]

@@ -3,7 +3,7 @@
 use stp_base::{Memory, Text};
 use stp_schema::{
     Domain, Expr, Fact, Given, Lifted, LiftedAtom, ObjectRow, Problem, Schema, Symbol, Term,
-    Timing, TypeRow,
+    TimedFact, TimedLiteral, Timing, TypeRow,
 };
 
 /// Appends a number of one digit.
@@ -246,7 +246,41 @@ fn push_values(out: &mut Text, values: &[Given<'_>]) -> Result<(), Memory> {
     out.push(b";")
 }
 
-/// Appends a problem without its domain.
+/// Appends what an event does: each literal behind a sign.
+fn push_literals(out: &mut Text, literals: &[TimedLiteral<'_>]) -> Result<(), Memory> {
+    for literal in literals {
+        out.push(if literal.adds { b"+" } else { b"-" })?;
+        push_digit(out, literal.predicate)?;
+        for arg in literal.args {
+            push_digit(out, arg.0)?;
+        }
+    }
+    Ok(())
+}
+
+/// Appends when an event comes: its time, or the least and the greatest one.
+fn push_window(out: &mut Text, event: &TimedFact<'_>) -> Result<(), Memory> {
+    out.push(b" ")?;
+    event.low.print(out)?;
+    if event.low.compare(event.high).is_eq() {
+        return Ok(());
+    }
+    out.push(b"..")?;
+    event.high.print(out)
+}
+
+/// Appends the facts and the events of a problem.
+pub fn push_events(out: &mut Text, problem: &Problem<'_>) -> Result<(), Memory> {
+    push_facts(out, problem.initial)?;
+    for event in problem.timed {
+        push_window(out, event)?;
+        out.push(b":")?;
+        push_literals(out, event.literals)?;
+    }
+    Ok(())
+}
+
+/// Appends a problem without its domain and without its events.
 pub fn push_problem(out: &mut Text, problem: &Problem<'_>) -> Result<(), Memory> {
     push_objects(out, problem.objects)?;
     push_facts(out, problem.initial)?;

@@ -153,7 +153,7 @@ const WHOLE: [(&[u8], u32, Code); 21] = [
         Code::P11,
     ),
     (
-        b"(define (problem y) (:domain x) (:init (at 5 (q))) (:goal (q)))",
+        b"(define (problem y) (:domain x) (:init (at -5 (q))) (:goal (q)))",
         39,
         Code::P12,
     ),

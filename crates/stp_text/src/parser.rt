@@ -1,6 +1,7 @@
 //! The tree of a text, or its one refusal.
 
 ghost use Rattle.std.specs.Prelude.{◌≡◌, ◌≢◌, ◌≤◌, true, [], ◌∷◌, length, map, MatchResult, IfOk, IfErr, OnOk};
+ghost use Rattle.stp_base.specs.declared.limits.TheConstants.{MAX_FILE_BYTES};
 ghost use Rattle.stp_text.specs.Tree.{view, nodes};
 ghost use Rattle.stp_text.specs.Bytes.{folded};
 ghost use Rattle.stp_text.specs.Offences.{wrong};
@@ -103,7 +104,7 @@ fn one_list<'a>(items: &[Sexpr<'a>], end: u32) -> Result<Sexpr<'a>, TextFault>
 
 /// The tree of a text in the arena, or its one refusal.
 pub fn tree<'a>(alloc: Global, arena: &'a Bump, bytes: &[u8]) -> Result<Sexpr<'a>, TextFault>
-    requires { length bytes.now ≤ 1048576 }
+    requires { length bytes.now ≤ MAX_FILE_BYTES }
     ensures read { MatchResult result (λ t. tree_of bytes.now ≡ Ok (view t)) (λ fault. fault ≢ TextFault.Memory → tree_of bytes.now ≡ Err fault) }
     ensures small { IfOk result (λ t. nodes (view t) ≤ length bytes.now) }
 {

@@ -1,6 +1,7 @@
 //! The tokens of a text, with their spans.
 
 ghost use Rattle.std.specs.Prelude.{◌≡◌, ◌≢◌, ◌≤◌, [], ◌∷◌, length, MatchResult};
+ghost use Rattle.stp_base.specs.declared.limits.TheConstants.{MAX_FILE_BYTES};
 ghost use Rattle.stp_text.specs.Pieces.{sign_of};
 ghost use Rattle.stp_text.specs.Reading.{end_of, token_of, tokens_of};
 
@@ -54,7 +55,7 @@ fn token_at(piece: Piece<'_>, end: u32) -> Token
 
 /// The tokens of a text in order, or the first bad byte or overlong word.
 pub fn tokens(alloc: Global, bytes: &[u8]) -> Result<List<Token>, TextFault>
-    requires { length bytes.now ≤ 1048576 }
+    requires { length bytes.now ≤ MAX_FILE_BYTES }
     ensures { MatchResult result (λ found. tokens_of bytes.now ≡ Ok found) (λ fault. fault ≢ TextFault.Memory → tokens_of bytes.now ≡ Err fault) }
 {
     let mut found = List::new(alloc);

@@ -131,7 +131,7 @@ event_seen timed i e l is number seen whole all =
     ∙ (ap (λ es. seen ++ points_of_owners (timed_owners number es)) (sym (item_here plain_timed timed i e l is)) ∙ all)
 
 -- the points of steps and then of events are those of the box
-points_append : (xs ys : List PlainOwner) → points_of_owners (xs ++ ys) ≡ points_of_owners xs ++ points_of_owners ys
+pub points_append : (xs ys : List PlainOwner) → points_of_owners (xs ++ ys) ≡ points_of_owners xs ++ points_of_owners ys
 points_append [] ys = refl
 points_append (x ∷ xs) ys = ap (λ ps. points_of_owner x ++ ps) (points_append xs ys) ∙ sym (append_assoc (points_of_owner x) (points_of_owners xs) (points_of_owners ys))
 

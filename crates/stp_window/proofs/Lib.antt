@@ -3,8 +3,9 @@ pub mod LastWay
 pub mod Proper
 pub mod WellMade
 pub mod OwnerLoops
-pub mod Writers
 pub mod EndLists
 pub mod Later
-pub mod Meetings
+pub mod PlacedPoints
+pub mod NamedPoints
 pub mod Swept
+pub mod MetPoints

@@ -1,11 +1,11 @@
 -- Well made owners have proper windows.
 use Rattle.std.proofs.Common.{◌≡◌, ℕ, ◌<◌, ◌≤◌, List, [], ◌∷◌, All, Contains, Option, Some, None, IfSome, ◌⊎◌, inl, inr, refl, ap, sym, ◌∙◌, subst, arith}
 use Rattle.std.proofs.lemmas.List.Elements.{Contains-append_cases, Contains-append_left, Contains-append_right}
-use Rattle.stp_cond.specs.Atoms.{PlainEvent}
+use Rattle.stp_cond.specs.Atoms.{PlainEvent, ReadsAlone}
 use Rattle.stp_happen.specs.Boxes.{PlainInside, PlainOwner, PlainBox}
 use Rattle.stp_happen.specs.Owners.{IsTimed, AreTimedApart, AreNumbered}
 use Rattle.stp_happen.proofs.Members.{here, there, member_cases, member_nil, each_of, all_of, all_pairs}
-use Rattle.stp_window.specs.Windows.{Point, OpenSpan, ReadsAlone, Meet, ArePartedIfOne, IsStarted, IsOwn, IsProper}
+use Rattle.stp_window.specs.Windows.{Point, OpenSpan, Meet, ArePartedIfOne, IsStarted, IsOwn, IsProper}
 use Rattle.stp_window.specs.OwnerWindows.{event_or_none, event_points, first_point, end_point, points_of_owner, points_of_owners, open_spans, open_spans_of_owner, open_spans_of_owners, windows_of, IsWellMade, AreWellMade}
 
 -- ---- the points and spans of owners

@@ -3,11 +3,12 @@ use Rattle.std.proofs.Common.{◌≡◌, ℕ, ◌+◌, ◌==◌, eqb-true, ◌<�
 use Rattle.std.proofs.Math.Logic.{∥∥₁_elim}
 use Rattle.std.proofs.Props.{props}
 use Rattle.std.proofs.lemmas.List.Elements.{Contains-append_cases}
-use Rattle.stp_cond.specs.Atoms.{has}
+use Rattle.stp_cond.specs.Atoms.{has, ReadsAlone}
 use Rattle.stp_cond.specs.Views.{atoms_of}
 use Rattle.stp_cond.specs.Events.{event_of}
 use Rattle.stp_cond.specs.declared.event.Event.{Event}
 use Rattle.stp_cond.proofs.Reading.{truth_reads_its_atoms}
+use Rattle.stp_cond.proofs.ReadingAlone.{events_read_alone}
 use Rattle.stp_happen.specs.declared.boxes.BoxStep.{BoxStep}
 use Rattle.stp_happen.specs.declared.boxes.BoxTimed.{BoxTimed}
 use Rattle.stp_happen.specs.declared.boxes.BoxRun.{BoxRun}
@@ -24,19 +25,9 @@ use Rattle.stp_happen.specs.OwnedViews.{plain_owned}
 use Rattle.stp_happen.specs.BoxViews.{plain_box}
 use Rattle.stp_happen.proofs.Members.{passing_member, each_of, all_of, all_mapped, mapped_member}
 use Rattle.stp_happen.proofs.OwnerLists.{in_steps, in_timed, owners_are_numbered}
-use Rattle.stp_window.specs.Windows.{ReadsAlone}
 use Rattle.stp_window.specs.OwnerWindows.{IsWellMade, AreWellMade}
 use Rattle.stp_window.specs.Boxed.{BoxesAreWellMade, BoxesHaveProperWindows, RunsAreWellMade}
 use Rattle.stp_window.proofs.Proper.{windows_proper}
-
-among : (reads : List ℕ) (s t : ℕ → Bool) → All (λ a. s a ≡ t a) reads → (a : ℕ) → has reads a ≡ true → s a ≡ t a
-among reads s t same a h =
-    let r = passing_member (λ n. n == a) reads h in
-    let e : r.0 ≡ a = eqb-true r.0 a r.2 in
-    ap s (sym e) ∙ (each_of (λ n. s n ≡ t n) reads same r.0 r.1 ∙ ap t e)
-
-pub events_read_alone : (e : Event) → ReadsAlone (event_of e)
-events_read_alone e s t same = ∥∥₁_elim e.lawful (Prim.hlevel props) (λ l. truth_reads_its_atoms (has (atoms_of e.reads.now)) s t e.cond.now l.reading (among (atoms_of e.reads.now) s t same))
 
 event_reads : (event : Option Event) → IfSome (some_event_of event) ReadsAlone
 event_reads None = tt

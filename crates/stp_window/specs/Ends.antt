@@ -1,4 +1,4 @@
--- Which steps are unsettled at a moment.
+-- Which steps and events of the environment are unsettled at a moment.
 use Rattle.std.specs.Prelude.{ℕ, List, map, filter}
 use Rattle.stp_base.specs.declared.ids.StepId.{StepId}
 use Rattle.stp_happen.specs.Boxes.{PlainOwner, PlainBox}

@@ -8,3 +8,4 @@ pub mod Points
 pub mod LastWrites
 pub mod Ends
 pub mod Sweep
+pub mod Met

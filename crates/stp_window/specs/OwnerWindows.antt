@@ -1,9 +1,9 @@
 -- The windows that the owners of a box make.
 use Rattle.std.specs.Prelude.{◌≡◌, ℕ, ◌<◌, ◌≤◌, true, false, List, [], ◌∷◌, ◌++◌, All, Option, Some, None, IfSome}
-use Rattle.stp_cond.specs.Atoms.{PlainEvent}
+use Rattle.stp_cond.specs.Atoms.{PlainEvent, ReadsAlone}
 use Rattle.stp_happen.specs.Boxes.{PlainInside, PlainOwner, PlainBox}
 use Rattle.stp_happen.specs.Owners.{AreNumbered}
-use Rattle.stp_window.specs.Windows.{Point, OpenSpan, WindowBox, ReadsAlone}
+use Rattle.stp_window.specs.Windows.{Point, OpenSpan, WindowBox}
 
 -- ---- points and spans
 

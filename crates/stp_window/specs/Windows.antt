@@ -1,6 +1,6 @@
 -- Boxes by their windows: each event comes at a moment of its window, and a choice of moments makes a run.
 use Rattle.std.specs.Prelude.{◌≡◌, ℕ, ◌≤◌, nat_lt, nat_le, Bool, ◌&&◌, List, map, All, Contains, ◌⊎◌}
-use Rattle.stp_cond.specs.Atoms.{PlainEvent}
+use Rattle.stp_cond.specs.Atoms.{PlainEvent, ReadsAlone}
 use Rattle.stp_happen.specs.Plain.{PlainEntry, PlainSpan, PlainRun}
 
 -- an event of a step, and the least and the greatest moment at which it may come
@@ -48,10 +48,6 @@ abbrev pub IsChoice : WindowBox → (Point → ℕ) → Type 0
 IsChoice b moment = All (IsInWindow moment) b.points × All (λ s. IsInWindow moment s.end) b.spans
 
 -- ---- boxes that are well made
-
--- a condition depends only on the atoms that its event reads
-abbrev pub ReadsAlone : PlainEvent → Type 0
-ReadsAlone e = (s t : ℕ → Bool) → All (λ a. s a ≡ t a) e.reads → e.cond s ≡ e.cond t
 
 -- two windows have a common moment
 abbrev pub Meet : Point → Point → Type 0

@@ -1,4 +1,4 @@
-//! Which steps may have ended at a moment, or not.
+//! Which steps may have ended at a moment, or not, and which events of the environment may have come.
 
 ghost use Rattle.std.specs.Prelude.{◌≡◌, ◌++◌, ◌∷◌, [], true, nat_lt, IfOk, OnOk};
 ghost use Rattle.stp_happen.specs.BoxViews.{plain_box};
@@ -32,8 +32,8 @@ fn unsettled_among(alloc: Global, owners: &[Owner<'_>], time: u128) -> Result<Li
     Ok(found)
 }
 
-/// The steps whose ends may have come by a moment or not, ascending: the low end of the window is not past
-/// the moment, and the high end is.
+/// The numbers of the steps whose ends, and of the events of the environment that, may have come by a moment or not,
+/// ascending: the low end of the window is not past the moment, and the high end is.
 pub fn unsettled(alloc: Global, boxed: &BoxRun<'_>, time: u128) -> Result<List<StepId>, Memory>
     ensures steps { IfOk result (λ r. numbers_of r ≡ unsettled_lem (plain_box boxed.now) time) }
     ensures ascending { IfOk result (λ r. is_ascending nat_lt (numbers_of r) ≡ true) }

@@ -1,19 +1,11 @@
 //! Which atoms an event writes.
 
-ghost use Rattle.std.specs.Prelude.{◌≡◌, ◌==◌, ◌||◌};
-ghost use Rattle.std.specs.List.{list_any};
+ghost use Rattle.std.specs.Prelude.{◌≡◌, ◌||◌};
 ghost use Rattle.stp_cond.specs.Atoms.{has};
 ghost use Rattle.stp_cond.specs.Events.{event_of};
 
 use stp_base::AtomId;
-use stp_cond::Event;
-
-/// Whether an atom is among these.
-fn is_among(atoms: &[AtomId], atom: AtomId) -> bool
-    ensures { result ≡ list_any (λ a. a.0 == atom.0) atoms.now }
-{
-    atoms.iter().any(|other| other.0 == atom.0)
-}
+use stp_cond::{Event, is_among};
 
 /// Whether an event adds an atom.
 pub fn adds(event: &Event<'_>, atom: AtomId) -> bool

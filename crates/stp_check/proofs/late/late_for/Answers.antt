@@ -40,4 +40,4 @@ is_known_to_hold-requires c = subst (λ n. is_below n c.args.cond.now ≡ true) 
 pub returns-then-is_known_to_hold : goal.returns-then-is_known_to_hold
 returns-then-is_known_to_hold c =
     let ends = points_of c.args.unsettled.now in
-    decided_always c.args.known.now ends (without_step c.args.number ends) (state_of_row c.args.row.now) c.args.cond.now c.requires.known (λ p i. (rest_within c.args.number ends p i).0) (c.is_known_to_hold.ensures c.if-is_known_to_hold.true)
+    decided_always c.args.known.now ends (without_step c.args.number ends) (state_of_row c.args.row.now) c.args.cond.now c.requires.known (λ p i. (rest_within c.args.number ends p i).0) (c.is_known_to_hold.ensures.holds c.if-is_known_to_hold.true)

@@ -3,7 +3,8 @@ use Rattle.std.proofs.lemmas.Result.{IfOk-weaker}
 use Rattle.stp_schema.specs.Views.{problem_of}
 use Rattle.stp_cli.specs.Case.{problem_of_texts, steps_of, case_of, case_with, grid_of, box_of}
 use Rattle.stp_cli.specs.Verdict.{IsVerdict}
-use Rattle.stp_cli.proofs.Casing.{case_refused, steps_refused, a_case, refused_or, or_right, same_verdict}
+use Rattle.stp_cli.specs.declared.refusal.CaseFault.TheVariants.{Refused}
+use Rattle.stp_cli.proofs.Casing.{is_refusal, case_refused, steps_refused, a_case, refused_or, or_right, same_verdict}
 use Rattle.stp_cli.proofs.judge.check_texts.Goals as goal
 
 -- the domain or the problem is refused, and so the case is
@@ -15,7 +16,7 @@ returns-in-Err c =
     (λ r (refusal, of, (answer, is, status, text)). (
       answer,
       refused_or (λ made. IsVerdict (grid_of made) (box_of made)) (case_of texts.domain texts.problem texts.plan) refusal answer
-          (case_refused texts.domain texts.problem texts.plan refusal (read ∙ c.in-Err.ensures.refused refusal (ap Err of))) is,
+          (case_refused texts.domain texts.problem texts.plan (Refused refusal) (read ∙ c.in-Err.ensures.refused (is_refusal c.in-Err.fault refusal of) ∙ ap Err of)) is,
       status,
       text,
     ))
@@ -31,7 +32,7 @@ returns-in-Err-read_steps c =
     (λ r (refusal, of, (answer, is, status, text)). (
       answer,
       refused_or (λ made. IsVerdict (grid_of made) (box_of made)) (case_of texts.domain texts.problem texts.plan) refusal answer
-          (steps_refused texts.domain texts.problem texts.plan (problem_of c.in-Ok.problem) (read ∙ c.in-Ok.ensures.ok) refusal (lines ∙ c.in-Err-read_steps.ensures.refused refusal (ap Err of))) is,
+          (steps_refused texts.domain texts.problem texts.plan (problem_of c.in-Ok.problem) (read ∙ c.in-Ok.ensures.ok) (Refused refusal) (lines ∙ c.in-Err-read_steps.ensures.refused (is_refusal c.in-Err-read_steps.fault refusal of) ∙ ap Err of)) is,
       status,
       text,
     ))

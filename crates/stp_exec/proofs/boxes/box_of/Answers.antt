@@ -21,15 +21,15 @@ returns-in_err-placed c =
     step_is_refused (problem_of c.args.problem.now) plan c.in_err-placed.field-0.0
     (ap (λ (r : PlainProblem). placed_from 1 r plan) (sym c.in_ok-world.ensures) ∙ c.in_err-placed.ensures.placed other))
 
-pub returns-in_err-boxed : goal.returns-in_err-boxed
-returns-in_err-boxed c =
+pub returns-in_err-made : goal.returns-in_err-made
+returns-in_err-made c =
     let plan = plain_plan c.args.plan.now in
-    let is = err_from_is_err_and c.from_residual-in_err-boxed.result c.from_residual-in_err-boxed.ensures.1 in
+    let is = err_from_is_err_and c.from_residual-in_err-made.result c.from_residual-in_err-made.ensures.1 in
     rw (is.1, is.2)
     (λ other.
-    limit_is_refused (problem_of c.args.problem.now) plan (map plain_placed c.in_ok-placed.placed) c.in_err-boxed.field-0.0
+    limit_is_refused (problem_of c.args.problem.now) plan (map plain_placed c.in_ok-placed.placed) c.in_err-made.field-0.0
     (ap (λ (r : PlainProblem). placed_from 1 r plan) (sym c.in_ok-world.ensures) ∙ c.in_ok-placed.ensures.placed)
-    (ap (λ (l : List Placed). beyond_limits (map plain_placed l)) (sym c.as_slice.ensures) ∙ c.in_err-boxed.ensures.limits other))
+    (ap (λ (l : List Placed). beyond_limits (problem_of c.args.problem.now) (map plain_placed l)) (sym c.as_slice.ensures) ∙ ap (λ (r : PlainProblem). beyond_limits r (map plain_placed c.as_slice.result.now)) (sym (c.in_ok-placed.ensures.same ∙ c.in_ok-world.ensures)) ∙ c.in_err-made.ensures.limits other))
 
 pub returns : goal.returns
 returns c =
@@ -37,8 +37,8 @@ returns c =
     let plan = plain_plan c.args.plan.now in
     let given = c.as_slice.result.now in
     let same : problem_in c.place.new.world ≡ p = c.in_ok-placed.ensures.same ∙ c.in_ok-world.ensures in
-    box_is_found p plan (map plain_placed c.in_ok-placed.placed) c.in_ok-boxed.boxed.grid (plain_box c.in_ok-boxed.boxed)
+    box_is_found p plan (map plain_placed c.in_ok-placed.placed) c.in_ok-made.made.boxed.grid (plain_box c.in_ok-made.made.boxed)
     (ap (λ (r : PlainProblem). placed_from 1 r plan) (sym c.in_ok-world.ensures) ∙ c.in_ok-placed.ensures.placed)
-    (ap (λ (l : List Placed). beyond_limits (map plain_placed l)) (sym c.as_slice.ensures) ∙ c.in_ok-boxed.ensures.limits)
-    (c.in_ok-boxed.ensures.grid ∙ ap (λ (l : List Placed). grid_of_plan (map plain_placed l)) c.as_slice.ensures)
-    (c.in_ok-boxed.ensures.stands ∙ ap (λ (r : PlainProblem). box_of_plan r (map plain_placed given)) same ∙ ap (λ (l : List Placed). box_of_plan p (map plain_placed l)) c.as_slice.ensures)
+    (ap (λ (l : List Placed). beyond_limits p (map plain_placed l)) (sym c.as_slice.ensures) ∙ ap (λ (r : PlainProblem). beyond_limits r (map plain_placed given)) (sym same) ∙ c.in_ok-made.ensures.limits)
+    (c.in_ok-made.ensures.grid ∙ ap (λ (r : PlainProblem). grid_of_plan r (map plain_placed given)) same ∙ ap (λ (l : List Placed). grid_of_plan p (map plain_placed l)) c.as_slice.ensures)
+    (c.in_ok-made.ensures.stands ∙ ap (λ (r : PlainProblem). box_of_plan r (map plain_placed given)) same ∙ ap (λ (l : List Placed). box_of_plan p (map plain_placed l)) c.as_slice.ensures)

@@ -1,35 +1,34 @@
-use Rattle.std.proofs.Common.{◌≡◌, sym, ap, ◌∙◌, subst, arith, map}
-use Prim.Native.Nat.{◌∣◌}
+use Rattle.std.proofs.Common.{◌≡◌, ℕ, true, refl, ap, ◌∙◌, sym}
+use Rattle.std.specs.List.{All}
 use Rattle.std.proofs.lemmas.Nat.Gcd.{dvd_refl}
+use Rattle.stp_frac.specs.Divisors.{lcm}
 use Rattle.stp_frac.specs.Fractions.{up_to}
-use Rattle.stp_exec.specs.Timed.{plain_timed, base_grid}
-use Rattle.stp_exec.proofs.Multiples.{within_from}
-use Rattle.stp_exec.proofs.TimedSteps.{joined_start, joined_more, joined_beyond, joined_all, steps_lie}
+use Rattle.stp_schema.specs.Timed.{timed_facts_of}
+use Rattle.stp_exec.specs.Timed.{plain_timed, base_grid, lies_on, event_lies_on}
+use Rattle.stp_exec.specs.TimeViews.{plain_times}
+use Rattle.stp_exec.proofs.TimedSteps.{steps_multiple, base_joined, base_beyond, if_within, steps_lie, events_lie}
 use Rattle.stp_exec.proofs.grid.grid_of.Goals as goal
-
-pub loop-step-init : goal.loop-step-init
-loop-step-init c = record { joined = joined_start c.args.steps.now; low = omega arith; high = omega arith }
 
 pub returns-in_default-clause-value : goal.returns-in_default-clause-value
 returns-in_default-clause-value c =
-    joined_beyond c.loop-step.grid c.loop-step.step-index c.step-item.result c.args.steps.now (omega (arith, c.loop-step.invariant.low)) (omega arith) (sym c.step-item.is) (sym c.in_default.is ∙ c.join_step.ensures.value) c.loop-step.invariant.joined
-
-pub loop-step-preserved : goal.loop-step-preserved
-loop-step-preserved c = record {
-  joined = joined_more c.loop-step.grid c.in-Some.joint c.loop-step.step-index c.step-item.result c.args.steps.now (omega (arith, c.loop-step.invariant.low)) (omega arith) (sym c.step-item.is) (sym c.in-Some.is ∙ c.join_step.ensures.value) c.loop-step.invariant.joined;
-  low = c.in-Some.ensures.low;
-  high = c.in-Some.ensures.high;
-}
+    base_beyond c.args.times.now (sym c.in_default.is ∙ c.join_steps.ensures.value ∙ ap (λ l. up_to 999999999 (lcm 1 (steps_multiple l))) c.deref.ensures.value)
 
 pub returns-clause-value : goal.returns-clause-value
 returns-clause-value c =
-    within_from 999999999 c.loop-step.grid c.loop-step.invariant.high
-    ∙ ap (up_to 999999999) (joined_all c.loop-step.grid c.loop-step.step-index c.args.steps.now (omega (arith, c.loop-step.invariant.low)) (omega arith) c.loop-step.invariant.joined)
-
-pub returns-clause-lies : goal.returns-clause-lies
-returns-clause-lies c =
-    let is : c.loop-step.grid ≡ base_grid (map plain_timed c.args.steps.now) = joined_all c.loop-step.grid c.loop-step.step-index c.args.steps.now (omega (arith, c.loop-step.invariant.low)) (omega arith) c.loop-step.invariant.joined in
-    steps_lie c.args.steps.now c.loop-step.grid (subst (λ n. base_grid (map plain_timed c.args.steps.now) ∣ n) (sym is) (dvd_refl (base_grid (map plain_timed c.args.steps.now))))
+    c.join_events.ensures.value
+    ∙ ap (up_to 999999999) (base_joined c.args.times.now c.in-Some.grid (sym c.in-Some.is ∙ c.join_steps.ensures.value ∙ ap (λ l. up_to 999999999 (lcm 1 (steps_multiple l))) c.deref.ensures.value))
 
 pub returns-clause-base : goal.returns-clause-base
-returns-clause-base c = joined_all c.loop-step.grid c.loop-step.step-index c.args.steps.now (omega (arith, c.loop-step.invariant.low)) (omega arith) c.loop-step.invariant.joined
+returns-clause-base c =
+    let base = base_grid (plain_times c.args.times.now) in
+    if_within c.join_events.result base (λ (g : ℕ). g ≡ base) (returns-clause-value c) refl
+
+pub returns-clause-steps : goal.returns-clause-steps
+returns-clause-steps c =
+    let base = base_grid (plain_times c.args.times.now) in
+    if_within c.join_events.result base (λ (g : ℕ). All (λ step. lies_on g (plain_timed step) ≡ true) c.args.times.now.steps.items) (returns-clause-value c) (steps_lie c.args.times.now base (dvd_refl base))
+
+pub returns-clause-events : goal.returns-clause-events
+returns-clause-events c =
+    let base = base_grid (plain_times c.args.times.now) in
+    if_within c.join_events.result base (λ (g : ℕ). All (λ e. event_lies_on g e ≡ true) (timed_facts_of c.args.times.now.events.now)) (returns-clause-value c) (events_lie c.args.times.now base (dvd_refl base))

@@ -4,7 +4,8 @@ use Rattle.stp_cond.specs.Truth.{meaning_of, state_of_row}
 use Rattle.stp_happen.specs.Bounds.{MayEndWithin, bounded_owner}
 use Rattle.stp_happen.specs.OwnerViews.{plain_owners}
 use Rattle.stp_happen.specs.SoundOwned.{IsOwner}
-use Rattle.stp_happen.proofs.Bounding.{bounded_is_sound, bounded_is_box}
+use Rattle.stp_happen.proofs.Bounding.{bounded_is_sound}
+use Rattle.stp_happen.proofs.OwnedBoxes.{owned_is_box}
 use Rattle.stp_happen.proofs.bounds.with_bounds.Goals as goal
 
 -- each owner may have the bounds, so the box keeps what boxes keep
@@ -30,6 +31,6 @@ returns-clause-same c =
     let number = c.args.number in
     let low = c.args.low in
     let high = c.args.high in
-    bounded_is_box number low high (plain_owners box.owners) (plain_owners c.in_ok-owners.owners) (state_of_row box.initial) (state_of_row c.in_ok-initial.initial) (meaning_of box.goal.now)
+    owned_is_box (plain_owners c.in_ok-owners.owners) (map (bounded_owner number low high) (plain_owners box.owners)) (state_of_row box.initial) (state_of_row c.in_ok-initial.initial) (meaning_of box.goal.now)
     (c.in_ok-owners.ensures.same ∙ ap (λ os. map (bounded_owner number low high) (plain_owners os)) c.as_slice.ensures)
     (ap state_of_row c.in_ok-initial.ensures)

@@ -6,8 +6,11 @@ use Rattle.stp_happen.specs.OwnerViews.{plain_owners}
 use Rattle.stp_happen.specs.SoundBox.{IsBoxStep, IsBoxTimed}
 use Rattle.stp_happen.specs.SoundOwned.{IsOwner}
 use Rattle.stp_happen.specs.StepViews.{steps_of, timed_of}
-use Rattle.stp_happen.proofs.OwnedBoxes.{owned_same, owned_is_sound, owned_is_box}
+use Rattle.stp_happen.proofs.OwnedBoxes.{few_of_box, owned_same, owned_is_sound, owned_is_box}
 use Rattle.stp_happen.proofs.owning.by_owners.Goals as goal
+
+pub push_timed-requires-clause-few : goal.push_timed-requires-clause-few
+push_timed-requires-clause-few c = few_of_box c.args.boxed.now c.as_slice.result.now c.as_slice.ensures
 
 -- the owners are those of the steps and then of the events, and each keeps what owners keep
 pub invariant_of-result : goal.invariant_of-result

@@ -1,4 +1,4 @@
-use Rattle.std.proofs.Common.{◌≡◌, ◌&&◌, true, sym, ◌∙◌, subst}
+use Rattle.std.proofs.Common.{◌&&◌, sym, ◌∙◌, subst}
 use Rattle.std.specs.List.{list_all}
 use Rattle.stp_happen.specs.Boxes.{PlainBox}
 use Rattle.stp_happen.proofs.Members.{and_left, and_right}

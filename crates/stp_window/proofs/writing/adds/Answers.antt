@@ -1,6 +1,5 @@
-use Rattle.std.proofs.Common.{◌∙◌}
-use Rattle.stp_window.proofs.Writers.{among_is_has}
+use Rattle.stp_cond.proofs.Lawful.{adds_once}
 use Rattle.stp_window.proofs.writing.adds.Goals as goal
 
-pub returns : goal.returns
-returns c = c.is_among.ensures ∙ among_is_has c.args.event.now.adds.now c.args.atom.0
+pub is_among-requires : goal.is_among-requires
+is_among-requires c = adds_once c.args.event.now

@@ -1,5 +1,0 @@
-use Rattle.stp_window.proofs.Meetings.{step_there}
-use Rattle.stp_window.proofs.meeting.step_at.Goals as goal
-
-pub returns : goal.returns
-returns c = step_there c.args.steps.now c.args.number.0 c.index-steps-number.result c.requires c.index-steps-number.is
