@@ -1,0 +1,11 @@
+; A rover that measures in calm weather and sends what it found while a relay is in view.
+(define (domain relay)
+ (:predicates (calm) (in-view) (measured) (sent))
+ (:durative-action measure :parameters ()
+  :uncontrollable-duration (and (>= ?duration 2) (<= ?duration 4))
+  :condition (over all (calm))
+  :effect (at end (measured)))
+ (:durative-action send :parameters ()
+  :duration (= ?duration 3)
+  :condition (and (at start (measured)) (over all (in-view)))
+  :effect (at end (sent))))
