@@ -49,6 +49,31 @@ def crowd(steps):
     )
 
 
+def surrounded(steps):
+    """So many steps one after the other, a timed literal for each five of them, and an event of a chosen moment for each
+    sixteen, over whose window an over-all condition holds whether or not it has come."""
+    actions, lines, items = [], [], []
+    chosen = steps * 3 // 50
+    for i in range(steps):
+        event = i * chosen // steps
+        actions.append(
+            f"(:durative-action act{i} :parameters () :duration (= ?duration 3)"
+            f" :condition (and (at start (p{i})) (over all (or (u{event}) (v{event})))) :effect (at end (p{i + 1})))"
+        )
+        lines.append(f"{4 * i}: (act{i}) [3]")
+        if i % 5 == 0:
+            items.append(f"(at {8 * i + 1}/2 (t{i}))")
+    for j in range(chosen):
+        low, high = 4 * (j * steps // chosen), 4 * ((j + 1) * steps // chosen)
+        items.append(f"(v{j}) (between {low} {high} (and (u{j}) (not (v{j}))))")
+    atoms = " ".join(f"(p{i})" for i in range(steps + 1))
+    atoms += " " + " ".join(f"(t{i})" for i in range(0, steps, 5))
+    atoms += " " + " ".join(f"(u{j}) (v{j})" for j in range(chosen))
+    domain = f"(define (domain surrounded) (:predicates {atoms})\n" + "\n".join(actions) + ")\n"
+    problem = f"(define (problem y) (:domain surrounded) (:init (p0) {' '.join(items)}) (:goal (p{steps})))\n"
+    return domain, problem, "\n".join(lines) + "\n"
+
+
 def wide(size):
     """A domain of about so many bytes, half of them predicates and half actions, and a plan of one step."""
     atoms, count, used = [], 0, 0
@@ -200,6 +225,7 @@ def main():
     table("a chain of steps", chain, [50, 100, 200, 400, 500], runs)
     table("steps of one moment", crowd, [50, 100, 200, 400, 500], runs)
     table("steps side by side with long over-all conditions", guarded, [50, 100, 200, 400, 500], runs)
+    table("steps, timed literals and events of chosen moments", surrounded, [50, 100, 200, 400, 500], runs)
     table("bytes of a domain", wide, [131_072, 262_144, 524_288, MOST], runs)
     table("bytes of one event", long_event, [131_072, 262_144, 524_288, MOST], runs)
     table("bytes of a plan's comment", comment, [131_072, 262_144, 524_288, MOST], runs)

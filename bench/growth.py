@@ -1,10 +1,10 @@
 #!/usr/bin/env python3
 """Times `check` on plans with uncertain durations, with the proved program.
 
-Two tables grow the number of steps, to 500, where no more uncertain ends overlap; one grows the number of
-uncertain ends that overlap, to 16; and the last three grow what the search for the least failure meets: the steps
-before it, the steps that it moves, and the width of windows. Prints for each input the least
-user time of a few runs, and the factor from the row before it. Nothing is judged: read the factors as growth
+Two tables grow the number of steps, to 500, where no more uncertain ends overlap; four grow the number of uncertain
+ends that overlap, to 499, under a disjunction of their atoms, a conjunction, one atom that all of them write, and a
+quantifier over their atoms; and the last three grow what the search for the least failure meets: the steps before it,
+the steps that it moves, and the width of windows. Prints for each input the least user time of a few runs, and the factor from the row before it. Nothing is judged: read the factors as growth
 (2 per doubling is linear) and compare rows of one run only.
 
 usage: bench/growth.py [runs]
@@ -80,6 +80,40 @@ def overlapping(ends):
     return files("overlapping", ["f"] + atoms, actions, "(f)", goal, lines)
 
 
+def conjoined(ends):
+    """So many uncertain ends that overlap, each of which adds an atom that holds already, and a step that needs all."""
+    atoms = [f"a{i}" for i in range(ends)]
+    actions = [uncertain(f"up{i}", 10, 20, f"({atom})") for i, atom in enumerate(atoms)]
+    every = " ".join(f"({atom})" for atom in atoms)
+    actions.append(guard("hold", 40, f"(and {every})"))
+    lines = [f"0: (up{i}) [10,20]" for i in range(ends)] + ["1: (hold) [40]"]
+    return files("conjoined", atoms, actions, every, every, lines)
+
+
+def one_atom(ends):
+    """So many uncertain ends that overlap and all add one atom, of which a step needs that or another."""
+    actions = [uncertain(f"up{i}", 10, 20, "(f)") for i in range(ends)]
+    actions.append(guard("hold", 40, "(or (f) (g))"))
+    lines = [f"0: (up{i}) [10,20]" for i in range(ends)] + ["1: (hold) [40]"]
+    return files("one-atom", ["f", "g"], actions, "(g)", "(f)", lines)
+
+
+def quantified(ends):
+    """So many uncertain ends that overlap, and as many steps that need of each of their atoms what always holds."""
+    half = ends // 2
+    condition = "(forall (?y) (or (not (p ?y)) (q ?y) (p ?y)))"
+    domain = (
+        "(define (domain quantified) (:predicates (p ?x) (q ?x))\n"
+        "(:durative-action up :parameters (?x) :uncontrollable-duration (and (>= ?duration 10) (<= ?duration 20))"
+        " :condition (and) :effect (at end (p ?x)))\n"
+        f"(:durative-action hold :parameters (?x) :duration (= ?duration 40) :condition (over all {condition}) :effect (and)))\n"
+    )
+    objects = " ".join(f"o{i}" for i in range(half))
+    problem = f"(define (problem y) (:domain quantified) (:objects {objects}) (:init) (:goal (and)))\n"
+    lines = [f"0: (up o{i}) [10,20]" for i in range(half)] + [f"1: (hold o{i}) [40]" for i in range(half)]
+    return domain, problem, "\n".join(lines) + "\n"
+
+
 def chained(steps):
     """So many steps one after the other, each with an uncertain end on which the next one waits."""
     atoms = [f"p{i}" for i in range(steps + 1)]
@@ -129,9 +163,13 @@ def main():
     print("user time, and the factor from the row before")
     table(f"steps, {OVERLAPPING} uncertain ends at most overlap", blocks, steps, runs)
     table("steps one after the other, each with an uncertain end", chained, steps, runs)
-    table("uncertain ends that overlap", overlapping, [2, 4, 8, 12, 14, 16], runs)
+    ends = [8, 16, 64, 125, 250, 499]
+    table("uncertain ends that overlap, under a disjunction", overlapping, ends, runs)
+    table("under a conjunction", conjoined, ends, runs)
+    table("all of one atom", one_atom, ends, runs)
+    table("steps, half of them uncertain, and half under a quantifier over their atoms", quantified, [16, 64, 120, 250], runs)
     table("steps before the least failure", late_failure, steps, runs)
-    table("steps that the least failure moves", moved, [1, 2, 4, 8, 12, 16], runs)
+    table("steps that the least failure moves", moved, [8, 16, 60, 125, 250, 499], runs)
     table("moments in a window", wide, [10, 1_000, 1_000_000, MOST - 1], runs)
 
 
