@@ -5,4 +5,3 @@ pub mod Worlds
 pub mod Chosen
 pub mod Views
 pub mod Ground
-pub mod InRange

@@ -60,7 +60,7 @@ fn lasting(
 }
 
 /// A schema under a binding.
-fn chosen_under<'a>(
+pub fn chosen_under<'a>(
     alloc: Global,
     arena: &'a Bump,
     members: &mut Members<'a>,

@@ -9,7 +9,7 @@ ghost use Rattle.stp_task.specs.Durations.{plain_duration, lasts};
 ghost use Rattle.stp_instance.specs.Views.{claim};
 ghost use Rattle.stp_instance.specs.Effects.{written_atoms};
 ghost use Rattle.stp_ground.specs.Ground.{action_by, happening, left_of};
-ghost use Rattle.stp_ground.specs.InRange.{IsActionInRange};
+ghost use Rattle.stp_task.specs.SoundTask.{IsActionInRange};
 ghost use Rattle.stp_ground.specs.Views.{chosen_view};
 ghost use Rattle.stp_ground.specs.Worlds.{problem_in};
 

@@ -5,7 +5,7 @@ ghost use Rattle.stp_schema.specs.Views.{problem_of};
 ghost use Rattle.stp_task.specs.Actions.{action_of};
 ghost use Rattle.stp_instance.specs.Numbered.{IsGrown};
 ghost use Rattle.stp_ground.specs.Ground.{instance_by};
-ghost use Rattle.stp_ground.specs.InRange.{IsActionInRange};
+ghost use Rattle.stp_task.specs.SoundTask.{IsActionInRange};
 
 use crate::choosing::choose;
 use crate::fault::InstanceFault;

@@ -16,7 +16,7 @@ mod tables;
 pub mod world;
 
 pub use beginning::{goal_in, number_goal, number_initial};
-pub use choosing::choose;
+pub use choosing::{choose, chosen_under};
 pub use chosen::Chosen;
 pub use events::{ground_event, number_events};
 pub use fault::InstanceFault;

@@ -1,7 +1,8 @@
 -- Ground actions without pointers.
-use Rattle.std.specs.Prelude.{ℕ, List, map, Option, option_map}
+use Rattle.std.specs.Prelude.{ℕ, Bool, List, map, Option, option_map}
 use Rattle.stp_cond.specs.declared.event.Event.{Event}
-use Rattle.stp_cond.specs.Formulas.{Formula, view}
+use Rattle.stp_cond.specs.Atoms.{PlainEvent}
+use Rattle.stp_cond.specs.Formulas.{Formula, holds_in, view}
 use Rattle.stp_cond.specs.Views.{atoms_of}
 use Rattle.stp_task.specs.Durations.{PlainDuration, plain_duration}
 use Rattle.stp_task.specs.declared.action.GroundAction.{GroundAction}
@@ -34,3 +35,12 @@ action_of a = record {
   finish = option_map happening_of a.finish;
   over = view a.over.now;
 }
+
+-- ---- what they mean
+
+-- what a formula says of a state
+abbrev pub meaning : Formula → (ℕ → Bool) → Bool
+meaning f state = holds_in state f
+
+abbrev pub event_in : PlainHappening → PlainEvent
+event_in h = record { cond = meaning h.cond; reads = h.reads; adds = h.adds; dels = h.dels }

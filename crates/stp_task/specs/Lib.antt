@@ -1,2 +1,6 @@
 pub mod Durations
 pub mod Actions
+pub mod SoundTask
+pub mod Tasks
+pub mod Certificates
+pub mod CertificateViews

@@ -1,0 +1,12 @@
+pub mod Tests
+pub mod Deciding
+pub mod Growing
+pub mod Takes
+pub mod Parts
+pub mod Closing
+pub mod Readers
+pub mod Seeing
+pub mod Rounds
+pub mod Origins
+pub mod Fitting
+pub mod Impossible

@@ -1,0 +1,34 @@
+use Rattle.std.proofs.Common.{◌<◌, length, get_or, sym, subst, All, arith, inl, inr}
+use Rattle.stp_task.specs.Actions.{action_of}
+use Rattle.stp_task.specs.SoundTask.{IsActionInRange}
+use Rattle.stp_relax.specs.Taken.{Allows, pair_so_far}
+use Rattle.stp_relax.proofs.Growing.{allows_grow, within_itself}
+use Rattle.stp_relax.proofs.Takes.{grown_more}
+use Rattle.stp_relax.proofs.Seeing.{one_more_place}
+use Rattle.stp_relax.proofs.reaching.take_readers.Goals as goal
+
+pub take_at-requires-clause-in_range : goal.take_at-requires-clause-in_range
+take_at-requires-clause-in_range c =
+    let n = length c.args.progress.now.may in
+    subst (λ m. All (IsActionInRange m) c.args.actions.now) (sym (c.loop-reader.invariant.grown.size n c.requires.size).may) c.requires.in_range
+
+pub loop-reader-preserved : goal.loop-reader-preserved
+loop-reader-preserved c =
+    let places = c.args.readers.now in
+    let i = c.loop-reader.reader-index in
+    let q = c.args.progress.now in
+    let r = c.loop-reader.progress in
+    let s = c.take_at.new.progress in
+    let so_far = c.loop-reader.invariant in
+    let new = c.in_ok-take_at.ensures in
+    record {
+      grown = grown_more q r s so_far.grown new.grown;
+      allows = λ j d h l.
+          elim (one_more_place places i j (omega arith) h) [
+            | inl m ↦ allows_grow (pair_so_far q) (pair_so_far q) (pair_so_far r) (pair_so_far s) (within_itself (pair_so_far q)) new.grown.within (action_of (get_or c.args.actions.now j d)) (so_far.allows j d m l)
+            | inr e ↦
+                allows_grow (pair_so_far r) (pair_so_far q) (pair_so_far s) (pair_so_far s) so_far.grown.within (within_itself (pair_so_far s)) (action_of (get_or c.args.actions.now j d))
+                (subst (λ k. Allows (pair_so_far r) (pair_so_far s) (action_of (get_or c.args.actions.now k d))) e (new.allows d (subst (λ k. k < length c.args.actions.now) (sym e) l)))
+          ];
+      least = λ other w all. new.least other (so_far.least other w all) all;
+    }

@@ -1,0 +1,6 @@
+pub mod Literals
+pub mod Judged
+pub mod Taken
+pub mod Reached
+pub mod Watched
+pub mod Unreachable
