@@ -16,14 +16,14 @@ use Rattle.stp_tables.specs.Atoms.{Atom}
 use Rattle.stp_ground.specs.Chosen.{PlainChosen}
 use Rattle.stp_ground.specs.Ground.{event_by}
 use Rattle.stp_exec.specs.Held.{PlainHeld, Instant, Fixed, Open, is_within, is_lawful_held}
-use Rattle.stp_exec.specs.Timed.{PlainTimed as PlainTimedStep, PlainTimes, count_of, lies_on, event_lies_on, moments_of, held_denominators, is_lawful_timed}
+use Rattle.stp_exec.specs.Timed.{PlainTimedStep, PlainTimes, count_of, lies_on, event_lies_on, moments_of, held_denominators, is_lawful_timed}
 use Rattle.stp_exec.specs.Fitting.{open_bounds, held_bounds, step_bounds, event_bounds, outside_from, judge_list, grid_with, unless_outside, unless_fine}
 use Rattle.stp_exec.proofs.Bounds.{Lies, HeldLies, above_on, at_most_count, bottom_pos, count_order, less_on, ends_ordered, first_lies, second_lies}
 use Rattle.stp_exec.proofs.EventMoments.{low_lies, high_lies, high_above}
 use Rattle.stp_exec.proofs.LeastGrids.{finer_grids_keep_moments, finer_grids_keep_events}
-use Rattle.stp_happen.specs.Owners.{PlainStep, PlainTimed, step_owner, step_owners, timed_owners, owners_of, finer_step, finer_timed}
+use Rattle.stp_happen.specs.Owners.{PlainBoxStep, PlainBoxTimed, step_owner, step_owners, timed_owners, owners_of, finer_step, finer_timed}
 use Rattle.stp_happen.proofs.OwnerLists.{owners_are_finer}
-use Rattle.stp_happen.specs.Boxes.{PlainOwner, IsVector, IsWithin, finer_owner}
+use Rattle.stp_happen.specs.Boxes.{PlainOwner, IsVector, IsInInterval, finer_owner}
 use Rattle.stp_exec.specs.Placed.{PlainPlaced, step_times, times_of}
 use Rattle.stp_exec.specs.Plans.{event_in, step_in, timed_in}
 
@@ -65,14 +65,14 @@ module _ (k g : ℕ) (pk : 0 < k) (pg : 0 < g) where
   count_order_up f h lf lh af ah le = at_most_count (count_of fine f) (count_of fine h) (sym (ap is_le (count_order fine f h finer_pos lf lh af ah)) ∙ le)
 
   module _ (p : PlainProblem) (table : List Atom) (all : List PlainPlaced) where
-    abbrev made : PlainPlaced → PlainStep
+    abbrev made : PlainPlaced → PlainBoxStep
     made s = finer_step k (step_in p table g all s)
 
     abbrev placed : PlainChosen → Fraction → PlainHeld → PlainPlaced
     placed chosen start held = record { chosen = chosen; timed = record { start = start; held = held } }
 
     -- a duration between the bounds of an open step
-    within : (chosen : PlainChosen) (start low high d : Fraction) (ds : List ℕ) → IsOn g (record { start = start; held = Open low high }) → Lies fine d → is_within low high d ≡ true → (number : ℕ) → IsWithin (step_owner number (made (placed chosen start (Open low high)))) (count_of fine d ∷ ds)
+    within : (chosen : PlainChosen) (start low high d : Fraction) (ds : List ℕ) → IsOn g (record { start = start; held = Open low high }) → Lies fine d → is_within low high d ≡ true → (number : ℕ) → IsInInterval (step_owner number (made (placed chosen start (Open low high)))) (count_of fine d ∷ ds)
     within chosen start low high d ds (lies, lawful) ld inside number = λ chosen_open.
         let t : PlainTimedStep = record { start = start; held = Open low high } in
         let m = finer_grids_keep_moments t k g pg lies in
@@ -122,7 +122,7 @@ module _ (k g : ℕ) (pk : 0 < k) (pg : 0 < g) where
 
     -- ---- events of the environment
 
-    abbrev event_made : Bool → PlainTimedFact → PlainTimed
+    abbrev event_made : Bool → PlainTimedFact → PlainBoxTimed
     event_made chosen e = finer_timed k (record { low = count_of g e.low; high = count_of g e.high; uncertain = chosen; event = event_in (event_by table e) })
 
     -- a moment between the bounds of an event
@@ -169,7 +169,7 @@ module _ (k g : ℕ) (pk : 0 < k) (pg : 0 < g) where
 
     -- ---- all owners
 
-    abbrev events_made : List PlainTimed
+    abbrev events_made : List PlainBoxTimed
     events_made = map (λ e. event_made (is_chosen e) e) p.timed
 
     finer_owners : owners_of (map made all) events_made ≡ map (finer_owner k) (owners_of (map (step_in p table g all) all) (map (timed_in table g) p.timed))

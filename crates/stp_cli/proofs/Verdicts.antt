@@ -11,7 +11,7 @@ use Rattle.stp_happen.specs.declared.boxes.BoxRun.{BoxRun}
 use Rattle.stp_happen.specs.declared.boxes.BoxTimed.{BoxTimed}
 use Rattle.stp_happen.specs.declared.fault.Fault.{Fault}
 use Rattle.stp_happen.specs.Boxes.{PlainOwner, IsVector, rest_of}
-use Rattle.stp_happen.specs.Owners.{PlainTimed, step_owner, step_owners, timed_owner, timed_owners, number_after}
+use Rattle.stp_happen.specs.Owners.{PlainBoxTimed, step_owner, step_owners, timed_owner, timed_owners, number_after}
 use Rattle.stp_happen.specs.StepViews.{step_of, steps_of, plain_timed, timed_of}
 use Rattle.stp_happen.specs.BoxViews.{plain_box}
 use Rattle.stp_report.specs.Bounds.{IsGrid, IsTime, IsFaultTime, AreWeakTimes}
@@ -94,11 +94,11 @@ uncertain_counted number (s ∷ ss) =
     let steps : count_by (λ (x : BoxStep). x.uncertain) (s ∷ ss) ≡ one + count_by (λ (x : BoxStep). x.uncertain) ss = sum_by-append (λ (x : BoxStep). cond x.uncertain 1 0) (s ∷ []) ss in
     sum ∙ ap (λ n. one + n) (uncertain_counted (number + 1) ss) ∙ sym steps
 
-no_steps : (number : ℕ) (timed : List PlainTimed) → count_by is_step (timed_owners number timed) ≡ 0
+no_steps : (number : ℕ) (timed : List PlainBoxTimed) → count_by is_step (timed_owners number timed) ≡ 0
 no_steps number [] = refl
 no_steps number (e ∷ es) = no_steps (number_after number e) es
 
-none_uncertain : (number : ℕ) (timed : List PlainTimed) → count_by is_uncertain_step (timed_owners number timed) ≡ 0
+none_uncertain : (number : ℕ) (timed : List PlainBoxTimed) → count_by is_uncertain_step (timed_owners number timed) ≡ 0
 none_uncertain number [] = refl
 none_uncertain number (e ∷ es) = none_uncertain (number_after number e) es
 

@@ -12,7 +12,7 @@ use Rattle.stp_frac.proofs.Divisors.{divides_from, divides_to, left_true, right_
 use Rattle.stp_frac.proofs.Counts.{count_on_multiple, counts_keep_order}
 use Rattle.stp_frac.proofs.Values.{abs_signed}
 use Rattle.stp_exec.specs.Held.{PlainHeld, Instant, Fixed, Open, is_lawful_held}
-use Rattle.stp_exec.specs.Timed.{PlainTimed, held_denominators, lies_on, count_of, ends_of, moments_of, greatest_of, is_sum_late, is_too_late}
+use Rattle.stp_exec.specs.Timed.{PlainTimedStep, held_denominators, lies_on, count_of, ends_of, moments_of, greatest_of, is_sum_late, is_too_late}
 
 -- ---- numbers above 0
 
@@ -200,7 +200,7 @@ some_same m n e = cc
 
 -- ---- steps that end too late
 
-pub late_moments : (grid : ℕ) (step : PlainTimed) → 0 < grid → lies_on grid step ≡ true → is_too_late step ≡ nat_lt (999999999 * grid) (moments_of grid step).high
+pub late_moments : (grid : ℕ) (step : PlainTimedStep) → 0 < grid → lies_on grid step ≡ true → is_too_late step ≡ nat_lt (999999999 * grid) (moments_of grid step).high
 late_moments grid step pg l =
     late_ends grid step.start step.held pg
     (left_true (divides step.start.bottom grid) (list_all (λ d. divides d grid) (held_denominators step.held)) l)
@@ -209,7 +209,7 @@ late_moments grid step pg l =
 within_test : (limit n : ℕ) → nat_lt limit n ≡ false → n ≤ limit
 within_test limit n e = grind (arith, nat_tests)
 
-pub in_time : (grid : ℕ) (step : PlainTimed) → 0 < grid → lies_on grid step ≡ true → is_too_late step ≡ false → (moments_of grid step).high ≤ 999999999 * grid
+pub in_time : (grid : ℕ) (step : PlainTimedStep) → 0 < grid → lies_on grid step ≡ true → is_too_late step ≡ false → (moments_of grid step).high ≤ 999999999 * grid
 in_time grid step pg l early = within_test (999999999 * grid) (moments_of grid step).high (sym (late_moments grid step pg l) ∙ early)
 
 -- ---- numbers below 0

@@ -10,7 +10,7 @@ use Rattle.stp_instance.specs.Numbered.{with_atoms}
 use Rattle.stp_instance.proofs.Gathered.{with_both}
 use Rattle.stp_ground.specs.Problems.{is_fact, goal_of, initial_atoms, event_atoms, goal_atoms}
 use Rattle.stp_ground.specs.Ground.{atoms_of_chosen, left_of}
-use Rattle.stp_happen.specs.Owners.{PlainStep, PlainTimed, owners_of}
+use Rattle.stp_happen.specs.Owners.{PlainBoxStep, PlainBoxTimed, owners_of}
 use Rattle.stp_happen.specs.Boxes.{PlainBox}
 use Rattle.stp_plan.specs.Steps as steps
 use Rattle.stp_exec.specs.declared.fault.ExecFault.{ExecFault}
@@ -52,11 +52,11 @@ plan_numbered p q same placed none first second third fourth a b c d e =
 
 -- ---- the box
 
-abbrev pub the_box : List PlainStep → List PlainTimed → List Bool → Cond → PlainBox
+abbrev pub the_box : List PlainBoxStep → List PlainBoxTimed → List Bool → Cond → PlainBox
 the_box steps timed initial goal = record { owners = owners_of steps timed; initial = state_of_row initial; goal = meaning_of goal }
 
 module _ (p : PlainProblem) (table : List Atom) (grid : ℕ) (placed : List PlainPlaced) where
-  pub box_is : (steps : List PlainStep) (timed : List PlainTimed) (initial : List Bool) (goal : Cond) → table ≡ atoms_of_plan p placed → steps ≡ map (step_in p table grid placed) placed → timed ≡ map (timed_in table grid) p.timed → initial ≡ map (is_fact p) table → view goal ≡ left_of p table (goal_of p) → the_box steps timed initial goal ≡ box_on grid p placed
+  pub box_is : (steps : List PlainBoxStep) (timed : List PlainBoxTimed) (initial : List Bool) (goal : Cond) → table ≡ atoms_of_plan p placed → steps ≡ map (step_in p table grid placed) placed → timed ≡ map (timed_in table grid) p.timed → initial ≡ map (is_fact p) table → view goal ≡ left_of p table (goal_of p) → the_box steps timed initial goal ≡ box_on grid p placed
   box_is steps timed initial goal numbered stepped events first left =
       (λ i. record { owners = owners_of (stepped i) (events i); initial = state_of_row (first i); goal = (meaning_is goal ∙ ap meaning left) i })
       ∙ ap (λ t. box_over p t grid placed) numbered

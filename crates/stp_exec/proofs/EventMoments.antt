@@ -10,7 +10,7 @@ use Rattle.stp_frac.specs.Fractions.{is_below_zero}
 use Rattle.stp_frac.proofs.Divisors.{divides_to}
 use Rattle.stp_tables.specs.Atoms.{Atom}
 use Rattle.stp_schema.specs.Timed.{PlainTimedFact, IsTimedFact, is_chosen, is_fixed, comes_before, are_in_order}
-use Rattle.stp_happen.specs.Owners.{PlainTimed, timed_before}
+use Rattle.stp_happen.specs.Owners.{PlainBoxTimed, timed_before}
 use Rattle.stp_happen.specs.Sound.{is_ascending}
 use Rattle.stp_exec.specs.Timed.{count_of, event_lies_on}
 use Rattle.stp_exec.specs.Plans.{timed_in}
@@ -53,7 +53,7 @@ module _ (grid : ℕ) (pg : 0 < grid) (e : PlainTimedFact) (kept : IsTimedFact e
 -- ---- all events, in order
 
 module _ (grid : ℕ) (pg : 0 < grid) (table : List Atom) where
-  abbrev at : PlainTimedFact → PlainTimed
+  abbrev at : PlainTimedFact → PlainBoxTimed
   at e = timed_in table grid e
 
   before_is : (e f : PlainTimedFact) → IsTimedFact e → event_lies_on grid e ≡ true → IsTimedFact f → event_lies_on grid f ≡ true → comes_before e f ≡ timed_before (at e) (at f)
@@ -78,13 +78,13 @@ module _ (grid : ℕ) (pg : 0 < grid) (table : List Atom) where
 
 -- ---- how many there are
 
-one_kept : (b : Bool) (x : PlainTimed) (xs : List PlainTimed) (e : PlainTimedFact) (es : List PlainTimedFact) → length xs ≡ length es → length (if b then x ∷ xs else xs) ≡ length (if b then e ∷ es else es)
+one_kept : (b : Bool) (x : PlainBoxTimed) (xs : List PlainBoxTimed) (e : PlainTimedFact) (es : List PlainTimedFact) → length xs ≡ length es → length (if b then x ∷ xs else xs) ≡ length (if b then e ∷ es else es)
 one_kept true x xs e es h = ap suc h
 one_kept false x xs e es h = h
 
 module _ (grid : ℕ) (table : List Atom) where
   -- as many events of a kind as there are before they are put on a grid
-  pub as_many : (p : PlainTimed → Bool) (es : List PlainTimedFact) → length (filter p (map (timed_in table grid) es)) ≡ length (filter (λ e. p (timed_in table grid e)) es)
+  pub as_many : (p : PlainBoxTimed → Bool) (es : List PlainTimedFact) → length (filter p (map (timed_in table grid) es)) ≡ length (filter (λ e. p (timed_in table grid e)) es)
   as_many p [] = refl
   as_many p (e ∷ es) =
       one_kept (p (timed_in table grid e)) (timed_in table grid e) (filter p (map (timed_in table grid) es)) e (filter (λ e. p (timed_in table grid e)) es) (as_many p es)

@@ -6,7 +6,7 @@ use Rattle.std.proofs.lemmas.Bool.Decides.{nat_tests}
 use Rattle.std.proofs.lemmas.List.Elements.{All-nil, All-cons, All-head, All-tail, All-map}
 use Rattle.stp_frac.specs.Fractions.{up_to}
 use Rattle.stp_exec.specs.declared.timed_step.TimedStep.{TimedStep}
-use Rattle.stp_exec.specs.Timed.{PlainTimed, PlainTimes, plain_timed, is_lawful_timed, base_grid, lies_on, is_too_late, late_from, first_too_late}
+use Rattle.stp_exec.specs.Timed.{PlainTimedStep, PlainTimes, plain_timed, is_lawful_timed, base_grid, lies_on, is_too_late, late_from, first_too_late}
 use Rattle.stp_exec.specs.declared.fault.ExecFault.TheVariants.{GridTooFine}
 use Rattle.stp_exec.specs.declared.placed.Placed.{Placed}
 use Rattle.stp_exec.specs.Times.{IsTimely}
@@ -67,4 +67,4 @@ placed_timely grid (s ∷ placed) h =
 
 pub all_placed_timely : (grid : ℕ) (times : List TimedStep) (placed : List Placed) → map plain_timed times ≡ step_times (map plain_placed placed) → All (λ step. IsTimely grid (plain_timed step)) times → All (λ s. IsTimely grid (plain_timed s.timed)) placed
 all_placed_timely grid times placed e h =
-    placed_timely grid placed (subst (λ (l : List PlainTimed). All (IsTimely grid) l) e (All-map (IsTimely grid) plain_timed times h))
+    placed_timely grid placed (subst (λ (l : List PlainTimedStep). All (IsTimely grid) l) e (All-map (IsTimely grid) plain_timed times h))

@@ -18,8 +18,8 @@ use Rattle.stp_task.specs.Actions.{PlainAction, happening_of, action_of}
 use Rattle.stp_task.specs.Durations.{lasts}
 use Rattle.stp_exec.specs.declared.moments.Moments.{Moments}
 use Rattle.stp_exec.specs.Held.{PlainHeld, Instant, Fixed, Open}
-use Rattle.stp_exec.specs.Timed.{PlainTimed, count_of, ends_of, moments_of}
-use Rattle.stp_happen.specs.Owners.{PlainStep}
+use Rattle.stp_exec.specs.Timed.{PlainTimedStep, count_of, ends_of, moments_of}
+use Rattle.stp_happen.specs.Owners.{PlainBoxStep}
 use Rattle.stp_happen.specs.StepViews.{some_event_of}
 use Rattle.stp_exec.specs.Times.{takes_time, is_open, fits}
 use Rattle.stp_exec.specs.Plans.{meaning, event_in, step_with}
@@ -37,7 +37,7 @@ last_is None = refl
 last_is (Some e) = ap Some (event_is e)
 
 -- a step with the events and the condition of a ground action
-abbrev pub step_of_action : Moments → Bool → ℕ → GroundAction → PlainStep
+abbrev pub step_of_action : Moments → Bool → ℕ → GroundAction → PlainBoxStep
 step_of_action moments uncertain key a = record {
   start = moments.start;
   low = moments.low;
@@ -97,7 +97,7 @@ ends_alike grid start Instant h = refl
 ends_alike grid start (Fixed duration) h = refl
 ends_alike grid start (Open low high) h = cc
 
-module _ (grid : ℕ) (t : PlainTimed) (moments : Moments) (is : moments ≡ moments_of grid t) where
+module _ (grid : ℕ) (t : PlainTimedStep) (moments : Moments) (is : moments ≡ moments_of grid t) where
   pub certain_is : is_open t.held ≡ false → moments.low ≡ moments.high
   certain_is h = ap (λ (m : Moments). m.low) is ∙ ends_alike grid (count_of grid t.start) t.held h ∙ sym (ap (λ (m : Moments). m.high) is)
 

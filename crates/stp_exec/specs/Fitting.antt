@@ -10,7 +10,7 @@ use Rattle.stp_refusal.specs.declared.phase.ReadFault.{ReadFault}
 use Rattle.stp_refusal.specs.declared.phase.ReadFault.TheVariants.{Refused, Memory}
 use Rattle.stp_exec.specs.declared.fit.Bounds.{Bounds}
 use Rattle.stp_exec.specs.Held.{PlainHeld, Instant, Fixed, Open, is_within}
-use Rattle.stp_exec.specs.Timed.{PlainTimed, PlainTimes, common_multiple, base_grid}
+use Rattle.stp_exec.specs.Timed.{PlainTimedStep, PlainTimes, common_multiple, base_grid}
 
 abbrev pub plain_bounds : Bounds → Fraction × Fraction
 plain_bounds bounds = (value_of bounds.low, value_of bounds.high)
@@ -20,7 +20,7 @@ held_bounds Instant = []
 held_bounds (Fixed duration) = []
 held_bounds (Open low high) = (low, high) ∷ []
 
-abbrev pub step_bounds : PlainTimed → List (Fraction × Fraction)
+abbrev pub step_bounds : PlainTimedStep → List (Fraction × Fraction)
 step_bounds step = held_bounds step.held
 
 -- the bounds of an event whose moment the environment chooses

@@ -4,10 +4,10 @@ use Rattle.std.specs.List.{list_all}
 use Prim.Native.Nat.{◌∣◌}
 use Rattle.stp_schema.specs.Timed.{PlainTimedFact}
 use Rattle.stp_exec.specs.declared.moments.Moments.{Moments}
-use Rattle.stp_exec.specs.Timed.{PlainTimed, PlainTimes, denominators, event_denominators, base_grid, lies_on, event_lies_on, count_of, moments_of}
+use Rattle.stp_exec.specs.Timed.{PlainTimedStep, PlainTimes, denominators, event_denominators, base_grid, lies_on, event_lies_on, count_of, moments_of}
 
 -- whether the denominators of a step are from 1 on
-abbrev pub is_proper : PlainTimed → Bool
+abbrev pub is_proper : PlainTimedStep → Bool
 is_proper step = list_all (λ d. nat_lt 0 d) (denominators step)
 
 -- whether those of an event are
@@ -36,7 +36,7 @@ finer factor m = record { start = factor * m.start; low = factor * m.low; high =
 
 -- on a finer grid the moments are the same times
 abbrev pub FinerGridsKeepMoments : Type 0
-FinerGridsKeepMoments = (step : PlainTimed) (factor grid : ℕ) → 0 < grid → lies_on grid step ≡ true → moments_of (factor * grid) step ≡ finer factor (moments_of grid step)
+FinerGridsKeepMoments = (step : PlainTimedStep) (factor grid : ℕ) → 0 < grid → lies_on grid step ≡ true → moments_of (factor * grid) step ≡ finer factor (moments_of grid step)
 
 -- and so are the bounds of events
 abbrev pub FinerGridsKeepEvents : Type 0

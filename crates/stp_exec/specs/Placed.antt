@@ -5,7 +5,7 @@ use Rattle.stp_schema.specs.Views.{PlainProblem}
 use Rattle.stp_ground.specs.Chosen.{PlainChosen, chosen_by}
 use Rattle.stp_plan.specs.Steps.{PlainStep}
 use Rattle.stp_exec.specs.Held.{PlainHeld, held_of}
-use Rattle.stp_exec.specs.Timed.{PlainTimed, PlainTimes}
+use Rattle.stp_exec.specs.Timed.{PlainTimedStep, PlainTimes}
 use Rattle.stp_exec.specs.declared.fault.ExecFault.{ExecFault}
 use Rattle.stp_exec.specs.declared.fault.ExecFault.TheVariants.{Step}
 use Rattle.stp_base.specs.Results.{◌>>=◌}
@@ -14,7 +14,7 @@ use Rattle.stp_exec.specs.Faults.{choice_fault, or_fault, step_number}
 -- a step of a plan in a problem: what it chooses, when it starts and how long it lasts
 pub record PlainPlaced : Type 0 where
   pub chosen : PlainChosen
-  pub timed : PlainTimed
+  pub timed : PlainTimedStep
 
 abbrev pub placed_at : PlainChosen → Fraction → PlainHeld → PlainPlaced
 placed_at chosen start held = record { chosen = chosen; timed = record { start = start; held = held } }
@@ -36,7 +36,7 @@ placed_from n p (s ∷ steps) = do
   Ok (one ∷ others)
 
 -- when steps start, and how long they last
-abbrev pub step_times : List PlainPlaced → List PlainTimed
+abbrev pub step_times : List PlainPlaced → List PlainTimedStep
 step_times steps = map (λ (s : PlainPlaced). s.timed) steps
 
 -- the same of a plan, and when the events of its problem come

@@ -16,9 +16,8 @@ use Rattle.stp_ground.specs.Chosen.{PlainChosen, chosen_by}
 use Rattle.stp_ground.specs.Ground.{atoms_of_chosen, left_of, action_by, event_by}
 use Rattle.stp_exec.specs.declared.moments.Moments.{Moments}
 use Rattle.stp_exec.specs.Held.{PlainHeld, Instant, Fixed, Open}
-use Rattle.stp_exec.specs.Timed.{PlainTimed, base_grid, count_of, moments_of}
-use Rattle.stp_happen.specs.Owners as environment
-use Rattle.stp_happen.specs.Owners.{PlainStep, owners_of}
+use Rattle.stp_exec.specs.Timed.{PlainTimedStep, base_grid, count_of, moments_of}
+use Rattle.stp_happen.specs.Owners.{PlainBoxStep, PlainBoxTimed, owners_of}
 use Rattle.stp_happen.specs.Boxes.{PlainBox, IsStrong}
 use Rattle.stp_exec.specs.Times.{is_open, fits}
 use Rattle.stp_exec.specs.Placed.{PlainPlaced, times_of}
@@ -41,7 +40,7 @@ numbers_of (Fixed duration) = duration ∷ []
 numbers_of (Open low high) = low ∷ high ∷ []
 
 -- when a step starts, and how long it lasts, in lowest terms
-abbrev pub HasLowestTerms : PlainTimed → Type 0
+abbrev pub HasLowestTerms : PlainTimedStep → Type 0
 HasLowestTerms t = All IsReduced (t.start ∷ numbers_of t.held)
 
 -- a step of a plan: an instance that starts from 0 on, and lasts as its action may
@@ -82,7 +81,7 @@ abbrev pub key_in : List PlainPlaced → PlainPlaced → ℕ
 key_in steps s = position_or_len (is_one_action s) steps + 1
 
 -- a step with these moments, this key and this action
-abbrev pub step_with : Moments → Bool → ℕ → PlainAction → PlainStep
+abbrev pub step_with : Moments → Bool → ℕ → PlainAction → PlainBoxStep
 step_with moments uncertain key action = record {
   start = moments.start;
   low = moments.low;
@@ -95,11 +94,11 @@ step_with moments uncertain key action = record {
 }
 
 -- a step of a plan on a grid, over a table of atoms
-abbrev pub step_in : PlainProblem → List Atom → ℕ → List PlainPlaced → PlainPlaced → PlainStep
+abbrev pub step_in : PlainProblem → List Atom → ℕ → List PlainPlaced → PlainPlaced → PlainBoxStep
 step_in p table grid steps s = step_with (moments_of grid s.timed) (is_open s.timed.held) (key_in steps s) (action_by p table s.chosen)
 
 -- an event of the environment on a grid, over a table of atoms; its moment is uncertain where its bounds differ
-abbrev pub timed_in : List Atom → ℕ → PlainTimedFact → environment.PlainTimed
+abbrev pub timed_in : List Atom → ℕ → PlainTimedFact → PlainBoxTimed
 timed_in table grid e = record {
   low = count_of grid e.low;
   high = count_of grid e.high;

@@ -10,20 +10,20 @@ use Rattle.stp_exec.specs.declared.moments.Moments.{Moments}
 use Rattle.stp_exec.specs.Held.{PlainHeld, Instant, Fixed, Open, plain_held, is_lawful_held}
 
 -- a step in time
-pub record PlainTimed : Type 0 where
+pub record PlainTimedStep : Type 0 where
   pub start : Fraction
   pub held : PlainHeld
 
-abbrev pub plain_timed : TimedStep → PlainTimed
+abbrev pub plain_timed : TimedStep → PlainTimedStep
 plain_timed step = record { start = value_of step.start; held = plain_held step.held }
 
 -- whether it starts from 0 on, and lasts a lawful time
-abbrev pub is_lawful_timed : PlainTimed → Bool
+abbrev pub is_lawful_timed : PlainTimedStep → Bool
 is_lawful_timed step = not (is_below_zero step.start.top) && is_lawful_held step.held
 
 -- when the steps of a plan start and how long they last, and when the events of the environment come
 pub record PlainTimes : Type 0 where
-  pub steps : List PlainTimed
+  pub steps : List PlainTimedStep
   pub events : List PlainTimedFact
 
 -- ---- the base grid
@@ -34,7 +34,7 @@ held_denominators (Fixed duration) = duration.bottom ∷ []
 held_denominators (Open low high) = low.bottom ∷ high.bottom ∷ []
 
 -- the denominators of a step's start, and of its duration or of both its bounds
-abbrev pub denominators : PlainTimed → List ℕ
+abbrev pub denominators : PlainTimedStep → List ℕ
 denominators step = step.start.bottom ∷ held_denominators step.held
 
 -- those of both bounds of an event
@@ -55,7 +55,7 @@ abbrev pub base_grid : PlainTimes → ℕ
 base_grid times = common_multiple (all_denominators times)
 
 -- whether a step lies on a grid
-abbrev pub lies_on : ℕ → PlainTimed → Bool
+abbrev pub lies_on : ℕ → PlainTimedStep → Bool
 lies_on grid step = list_all (λ d. divides d grid) (denominators step)
 
 -- whether an event does
@@ -78,7 +78,7 @@ ends_of grid start (Open low high) = (start + count_of grid low, start + count_o
 abbrev pub moments_between : ℕ → ℕ × ℕ → Moments
 moments_between start ends = record { start = start; low = ends.0; high = ends.1 }
 
-abbrev pub moments_of : ℕ → PlainTimed → Moments
+abbrev pub moments_of : ℕ → PlainTimedStep → Moments
 moments_of grid step = let start = count_of grid step.start in moments_between start (ends_of grid start step.held)
 
 -- ---- limits
@@ -95,14 +95,14 @@ is_sum_late f g =
     nat_lt (MAX_TIME * (f.bottom * g.bottom)) (unsigned_abs f.top * g.bottom + unsigned_abs g.top * f.bottom)
 
 -- whether a step starts, or may end, after the greatest time
-abbrev pub is_too_late : PlainTimed → Bool
+abbrev pub is_too_late : PlainTimedStep → Bool
 is_too_late step = is_sum_late step.start zero || is_sum_late step.start (greatest_of step.held)
 
 -- the number of the first such step, where n is the number of the first step
-abbrev pub late_from : ℕ → List PlainTimed → Option ℕ
+abbrev pub late_from : ℕ → List PlainTimedStep → Option ℕ
 late_from n [] = None
 late_from n (step ∷ steps) = if is_too_late step then Some n else late_from (n + 1) steps
 
 -- its number, from 1
-abbrev pub first_too_late : List PlainTimed → Option ℕ
+abbrev pub first_too_late : List PlainTimedStep → Option ℕ
 first_too_late steps = late_from 1 steps

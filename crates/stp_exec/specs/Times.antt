@@ -3,7 +3,7 @@ use Rattle.std.specs.Prelude.{◌≡◌, ℕ, Bool, true, false}
 use Rattle.stp_task.specs.Durations as durations
 use Rattle.stp_task.specs.Durations.{PlainDuration}
 use Rattle.stp_exec.specs.Held.{PlainHeld, Instant, Fixed, Open, is_within, is_pair}
-use Rattle.stp_exec.specs.Timed.{PlainTimed, lies_on, is_too_late}
+use Rattle.stp_exec.specs.Timed.{PlainTimedStep, lies_on, is_too_late}
 
 -- whether a step takes time
 abbrev pub takes_time : PlainHeld → Bool
@@ -31,6 +31,6 @@ fits (durations.Uncertain least most) (Fixed duration) = false
 fits (durations.Uncertain least most) (Open low high) = is_pair least most low high
 
 -- a step that lies on a grid, and neither starts nor may end after the greatest time
-pub record IsTimely (grid : ℕ) (t : PlainTimed) : Type 0 where
+pub record IsTimely (grid : ℕ) (t : PlainTimedStep) : Type 0 where
   pub lies : lies_on grid t ≡ true
   pub early : is_too_late t ≡ false

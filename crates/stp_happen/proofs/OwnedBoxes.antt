@@ -14,7 +14,7 @@ use Rattle.stp_happen.specs.declared.owners.Owner.{Owner}
 use Rattle.stp_happen.specs.SoundBox.{IsBox, IsBoxStep, IsBoxTimed}
 use Rattle.stp_happen.specs.SoundOwned.{IsOwner, IsOwnedBox}
 use Rattle.stp_happen.specs.Boxes.{PlainOwner, PlainBox}
-use Rattle.stp_happen.specs.Owners.{PlainTimed, step_owner, step_owners, timed_owner, number_after, timed_owners, owners_of, AreNumbered, AreInOrder}
+use Rattle.stp_happen.specs.Owners.{PlainBoxTimed, step_owner, step_owners, timed_owner, number_after, timed_owners, owners_of, AreNumbered, AreInOrder}
 use Rattle.stp_happen.specs.StepViews.{step_of, steps_of, plain_timed, timed_of}
 use Rattle.stp_happen.specs.OwnerViews.{plain_owners}
 use Rattle.stp_happen.proofs.Refining.{item_here}
@@ -86,9 +86,9 @@ timed_more timed i e l is number done new whole more all =
 -- the events of a box, at fixed and at chosen moments
 pub few_of_box : (boxed : BoxRun) (read : List BoxTimed) → read ≡ boxed.timed → length read ≤ MAX_TIMED + MAX_EVENTS
 few_of_box boxed read e = ∥∥₁_elim boxed.sound (Prim.hlevel props) (λ b.
-    let fixed : length (filter (λ (t : PlainTimed). not t.uncertain) (timed_of boxed.timed)) ≤ MAX_TIMED = b.few_fixed in
-    let chosen : length (filter (λ (t : PlainTimed). t.uncertain) (timed_of boxed.timed)) ≤ MAX_EVENTS = b.few_chosen in
-    omega (arith, ap length e, length-map boxed.timed plain_timed, length-filter_both (λ (t : PlainTimed). t.uncertain) (λ (t : PlainTimed). not t.uncertain) (λ t. refl) (timed_of boxed.timed)))
+    let fixed : length (filter (λ (t : PlainBoxTimed). not t.uncertain) (timed_of boxed.timed)) ≤ MAX_TIMED = b.few_fixed in
+    let chosen : length (filter (λ (t : PlainBoxTimed). t.uncertain) (timed_of boxed.timed)) ≤ MAX_EVENTS = b.few_chosen in
+    omega (arith, ap length e, length-map boxed.timed plain_timed, length-filter_both (λ (t : PlainBoxTimed). t.uncertain) (λ (t : PlainBoxTimed). not t.uncertain) (λ t. refl) (timed_of boxed.timed)))
 
 -- ---- the box
 

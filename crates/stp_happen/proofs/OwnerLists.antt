@@ -6,20 +6,20 @@ use Rattle.std.proofs.lemmas.List.{map-append, length-map}
 use Rattle.std.proofs.lemmas.List.Elements.{Contains-append_cases}
 use Rattle.stp_happen.specs.Sound.{is_ascending}
 use Rattle.stp_happen.specs.Boxes.{PlainOwner, finer_owner}
-use Rattle.stp_happen.specs.Owners.{PlainStep, PlainTimed, step_owner, step_owners, timed_owner, number_after, timed_owners, owners_of, timed_before, IsTimed, AreTimedApart, AreNumbered, AreInOrder, finer_step, finer_timed, OwnersAreFiner}
+use Rattle.stp_happen.specs.Owners.{PlainBoxStep, PlainBoxTimed, step_owner, step_owners, timed_owner, number_after, timed_owners, owners_of, timed_before, IsTimed, AreTimedApart, AreNumbered, AreInOrder, finer_step, finer_timed, OwnersAreFiner}
 use Rattle.stp_happen.proofs.Members.{here, there, member_cases, member_nil, all_of, each_passes, and_left, and_right}
 
 -- ---- which step or event an owner is of
 
-pub record OfStep (number : ℕ) (steps : List PlainStep) (o : PlainOwner) : Type 0 where
-  pub s : PlainStep
+pub record OfStep (number : ℕ) (steps : List PlainBoxStep) (o : PlainOwner) : Type 0 where
+  pub s : PlainBoxStep
   pub m : ℕ
   pub low : number ≤ m
   pub high : m < number + length steps
   pub member : Contains steps s
   pub is : o ≡ step_owner m s
 
-pub in_steps : (number : ℕ) (steps : List PlainStep) (o : PlainOwner) → Contains (step_owners number steps) o → OfStep number steps o
+pub in_steps : (number : ℕ) (steps : List PlainBoxStep) (o : PlainOwner) → Contains (step_owners number steps) o → OfStep number steps o
 in_steps number [] o i = absurd (member_nil o i)
 in_steps number (s ∷ ss) o i = elim (member_cases (step_owner number s) (step_owners (number + 1) ss) o i) [
   | inl e ↦ record { s = s; m = number; low = omega arith; high = omega arith; member = here s ss; is = sym e }
@@ -30,21 +30,21 @@ in_steps number (s ∷ ss) o i = elim (member_cases (step_owner number s) (step_
       record { s = r.s; m = r.m; low = omega arith; high = omega arith; member = there s ss r.s r.member; is = r.is }
 ]
 
-pub record OfTimed (number : ℕ) (timed : List PlainTimed) (o : PlainOwner) : Type 0 where
-  pub e : PlainTimed
+pub record OfTimed (number : ℕ) (timed : List PlainBoxTimed) (o : PlainOwner) : Type 0 where
+  pub e : PlainBoxTimed
   pub m : ℕ
   pub low : number ≤ m
   pub member : Contains timed e
   pub is : o ≡ timed_owner m e
 
-after_up : (number : ℕ) (e : PlainTimed) → number ≤ number_after number e
+after_up : (number : ℕ) (e : PlainBoxTimed) → number ≤ number_after number e
 after_up number e = by_kind number e.uncertain
   where
     by_kind : (number : ℕ) (b : Bool) → number ≤ cond b (number + 1) number
     by_kind number true = omega arith
     by_kind number false = omega arith
 
-pub in_timed : (number : ℕ) (timed : List PlainTimed) (o : PlainOwner) → Contains (timed_owners number timed) o → OfTimed number timed o
+pub in_timed : (number : ℕ) (timed : List PlainBoxTimed) (o : PlainOwner) → Contains (timed_owners number timed) o → OfTimed number timed o
 in_timed number [] o i = absurd (member_nil o i)
 in_timed number (e ∷ es) o i = elim (member_cases (timed_owner number e) (timed_owners (number_after number e) es) o i) [
   | inl h ↦ record { e = e; m = number; low = omega arith; member = here e es; is = sym h }
@@ -58,14 +58,14 @@ in_timed number (e ∷ es) o i = elim (member_cases (timed_owner number e) (time
 -- ---- numbers
 
 -- an owner of an event has the number 0, or one from here on
-timed_number : (number : ℕ) (timed : List PlainTimed) (o : PlainOwner) → Contains (timed_owners number timed) o → (o.number ≡ 0) ⊎ (number ≤ o.number)
+timed_number : (number : ℕ) (timed : List PlainBoxTimed) (o : PlainOwner) → Contains (timed_owners number timed) o → (o.number ≡ 0) ⊎ (number ≤ o.number)
 timed_number number timed o i = let r = in_timed number timed o i in subst (λ (x : PlainOwner). (x.number ≡ 0) ⊎ (number ≤ x.number)) (sym r.is) (by_kind number r.m r.e.uncertain r.low)
   where
     by_kind : (number m : ℕ) (b : Bool) → number ≤ m → (cond b m 0 ≡ 0) ⊎ (number ≤ cond b m 0)
     by_kind number m true l = inr l
     by_kind number m false l = inl refl
 
-numbered_steps : (number : ℕ) (steps : List PlainStep) (rest : List PlainOwner) → 1 ≤ number → ((y : PlainOwner) → Contains rest y → (y.number ≡ 0) ⊎ (number + length steps ≤ y.number)) → AreNumbered rest →
+numbered_steps : (number : ℕ) (steps : List PlainBoxStep) (rest : List PlainOwner) → 1 ≤ number → ((y : PlainOwner) → Contains rest y → (y.number ≡ 0) ⊎ (number + length steps ≤ y.number)) → AreNumbered rest →
     AreNumbered (step_owners number steps ++ rest)
 numbered_steps number [] rest l above h = h
 numbered_steps number (s ∷ ss) rest l above h = (
@@ -88,7 +88,7 @@ later_fixed false true m n e f h = absurd (true≢false f)
 later_fixed false false m n e f h = grind (arith, nat_tests)
 
 -- two events of one number are at fixed moments, the second at a later one
-numbered_timed : (number : ℕ) (timed : List PlainTimed) → 1 ≤ number → is_ascending timed_before timed ≡ true → AreNumbered (timed_owners number timed)
+numbered_timed : (number : ℕ) (timed : List PlainBoxTimed) → 1 ≤ number → is_ascending timed_before timed ≡ true → AreNumbered (timed_owners number timed)
 numbered_timed number [] l up = tt
 numbered_timed number (e ∷ es) l up = (
   all_of (λ y. (timed_owner number e).number ≡ y.number → AreTimedApart (timed_owner number e) y) (timed_owners (number_after number e) es) (λ y i same.
@@ -104,7 +104,7 @@ numbered_timed number (e ∷ es) l up = (
   numbered_timed (number_after number e) es (let a : number ≤ number_after number e = after_up number e in omega arith) (and_right (list_all (timed_before e) es) (is_ascending timed_before es) up),
 )
 
-pub owners_are_numbered : (steps : List PlainStep) (timed : List PlainTimed) → is_ascending timed_before timed ≡ true → AreNumbered (owners_of steps timed)
+pub owners_are_numbered : (steps : List PlainBoxStep) (timed : List PlainBoxTimed) → is_ascending timed_before timed ≡ true → AreNumbered (owners_of steps timed)
 owners_are_numbered steps timed up =
     numbered_steps 1 steps (timed_owners (length steps + 1) timed) (omega arith)
     (λ y i. elim (timed_number (length steps + 1) timed y i) [ inl z ↦ inl z | inr k ↦ inr (omega arith) ])
@@ -113,14 +113,14 @@ owners_are_numbered steps timed up =
 -- ---- order
 
 -- all but the events at fixed moments have numbers from here on
-own_number : (number : ℕ) (timed : List PlainTimed) (y : PlainOwner) → Contains (timed_owners number timed) y → (IsTimed y → ⊥) → number ≤ y.number
+own_number : (number : ℕ) (timed : List PlainBoxTimed) (y : PlainOwner) → Contains (timed_owners number timed) y → (IsTimed y → ⊥) → number ≤ y.number
 own_number number timed y i other = let r = in_timed number timed y i in subst (λ (x : PlainOwner). number ≤ x.number) (sym r.is) (by_kind number r.m r.e r.low r.e.uncertain refl (λ t. other (subst IsTimed (sym r.is) t)))
   where
-    by_kind : (number m : ℕ) (e : PlainTimed) → number ≤ m → (b : Bool) → e.uncertain ≡ b → (IsTimed (timed_owner m e) → ⊥) → number ≤ cond e.uncertain m 0
+    by_kind : (number m : ℕ) (e : PlainBoxTimed) → number ≤ m → (b : Bool) → e.uncertain ≡ b → (IsTimed (timed_owner m e) → ⊥) → number ≤ cond e.uncertain m 0
     by_kind number m e l true h other = rw h l
     by_kind number m e l false h other = absurd (other (record { first = refl; inside = refl; certain = h }))
 
-timed_in_order : (number : ℕ) (timed : List PlainTimed) → 1 ≤ number → AreInOrder (timed_owners number timed)
+timed_in_order : (number : ℕ) (timed : List PlainBoxTimed) → 1 ≤ number → AreInOrder (timed_owners number timed)
 timed_in_order number [] l = tt
 timed_in_order number (e ∷ es) l = (
   all_of (λ y. (IsTimed y → ⊥) → (timed_owner number e).number < y.number) (timed_owners (number_after number e) es) (λ y i other. by_kind number y.number e.uncertain l (own_number (number_after number e) es y i other)),
@@ -131,7 +131,7 @@ timed_in_order number (e ∷ es) l = (
     by_kind number n true l k = omega arith
     by_kind number n false l k = omega arith
 
-steps_in_order : (number : ℕ) (steps : List PlainStep) (rest : List PlainOwner) → ((y : PlainOwner) → Contains rest y → (IsTimed y → ⊥) → number + length steps ≤ y.number) → AreInOrder rest →
+steps_in_order : (number : ℕ) (steps : List PlainBoxStep) (rest : List PlainOwner) → ((y : PlainOwner) → Contains rest y → (IsTimed y → ⊥) → number + length steps ≤ y.number) → AreInOrder rest →
     AreInOrder (step_owners number steps ++ rest)
 steps_in_order number [] rest above h = h
 steps_in_order number (s ∷ ss) rest above h = (
@@ -142,7 +142,7 @@ steps_in_order number (s ∷ ss) rest above h = (
   steps_in_order (number + 1) ss rest (λ y i other. let k : number + length (s ∷ ss) ≤ y.number = above y i other in omega arith) h,
 )
 
-pub owners_are_in_order : (steps : List PlainStep) (timed : List PlainTimed) → AreInOrder (owners_of steps timed)
+pub owners_are_in_order : (steps : List PlainBoxStep) (timed : List PlainBoxTimed) → AreInOrder (owners_of steps timed)
 owners_are_in_order steps timed =
     steps_in_order 1 steps (timed_owners (length steps + 1) timed)
     (λ y i other. let k : length steps + 1 ≤ y.number = own_number (length steps + 1) timed y i other in omega arith)
@@ -150,18 +150,18 @@ owners_are_in_order steps timed =
 
 -- ---- finer grids
 
-finer_steps : (k number : ℕ) (steps : List PlainStep) → step_owners number (map (finer_step k) steps) ≡ map (finer_owner k) (step_owners number steps)
+finer_steps : (k number : ℕ) (steps : List PlainBoxStep) → step_owners number (map (finer_step k) steps) ≡ map (finer_owner k) (step_owners number steps)
 finer_steps k number [] = refl
 finer_steps k number (s ∷ ss) = ap (λ os. step_owner number (finer_step k s) ∷ os) (finer_steps k (number + 1) ss)
 
 -- 0 stays 0
-finer_event : (k number : ℕ) (e : PlainTimed) → timed_owner number (finer_timed k e) ≡ finer_owner k (timed_owner number e)
+finer_event : (k number : ℕ) (e : PlainBoxTimed) → timed_owner number (finer_timed k e) ≡ finer_owner k (timed_owner number e)
 finer_event k number e = ap (λ (t : ℕ). let o : PlainOwner = record { number = cond e.uncertain number 0; start = t; low = k * e.low; high = k * e.high; uncertain = e.uncertain; first = None; last = Some e.event; inside = None } in o) (nothing k)
   where
     nothing : (k : ℕ) → 0 ≡ k * 0
     nothing k = omega arith
 
-finer_events : (k number : ℕ) (timed : List PlainTimed) → timed_owners number (map (finer_timed k) timed) ≡ map (finer_owner k) (timed_owners number timed)
+finer_events : (k number : ℕ) (timed : List PlainBoxTimed) → timed_owners number (map (finer_timed k) timed) ≡ map (finer_owner k) (timed_owners number timed)
 finer_events k number [] = refl
 finer_events k number (e ∷ es) = ap₂ (λ o os. o ∷ os) (finer_event k number e) (finer_events k (number_after number e) es)
 

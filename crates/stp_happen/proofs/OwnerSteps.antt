@@ -6,12 +6,12 @@ use Rattle.stp_happen.specs.declared.owners.Owner.{Owner}
 use Rattle.stp_happen.specs.Plain.{PlainEntry, PlainSpan}
 use Rattle.stp_happen.specs.Sound.{last_moment}
 use Rattle.stp_happen.specs.SoundOwned.{IsOwner}
-use Rattle.stp_happen.specs.Boxes.{PlainOwner, end_of, rest_of, entries_of_owner, spans_of_owner, entries_under, spans_under, IsWithin, IsVector}
+use Rattle.stp_happen.specs.Boxes.{PlainOwner, end_of, rest_of, entries_of_owner, spans_of_owner, entries_under, spans_under, IsInInterval, IsVector}
 use Rattle.stp_happen.specs.OwnerViews.{plain_owner, plain_owners}
 
 -- ---- bounds
 
-pub end_within : (o : PlainOwner) → o.low ≤ o.high → (o.uncertain ≡ false → o.low ≡ o.high) → (ds : List ℕ) → IsWithin o ds → (u : Bool) → o.uncertain ≡ u → (o.low ≤ end_of o ds) × (end_of o ds ≤ o.high)
+pub end_within : (o : PlainOwner) → o.low ≤ o.high → (o.uncertain ≡ false → o.low ≡ o.high) → (ds : List ℕ) → IsInInterval o ds → (u : Bool) → o.uncertain ≡ u → (o.low ≤ end_of o ds) × (end_of o ds ≤ o.high)
 end_within o up certain ds w true e = rw e ((w e).1, (w e).2)
 end_within o up certain ds w false e = rw e (up, omega arith)
 
@@ -22,7 +22,7 @@ pub record Bounds (grid : ℕ) (o : Owner) (end : ℕ) : Type 0 where
   pub start : o.start ≤ last_moment grid
   pub within : end ≤ last_moment grid
 
-pub bounds : (grid n : ℕ) (o : Owner) → IsOwner grid n o → (ds : List ℕ) → IsWithin (plain_owner o) ds → (end : ℕ) → end ≡ end_of (plain_owner o) ds → Bounds grid o end
+pub bounds : (grid n : ℕ) (o : Owner) → IsOwner grid n o → (ds : List ℕ) → IsInInterval (plain_owner o) ds → (end : ℕ) → end ≡ end_of (plain_owner o) ds → Bounds grid o end
 bounds grid n o h ds w end e =
     let b = end_within (plain_owner o) h.ordered h.certain ds w o.uncertain refl in
     let a : o.start ≤ o.low = h.up in

@@ -14,7 +14,7 @@ use Rattle.stp_happen.specs.declared.boxes.BoxTimed.{BoxTimed}
 use Rattle.stp_happen.specs.Sound.{is_ascending}
 use Rattle.stp_happen.specs.SoundBox.{IsBox, IsBoxStep, IsBoxTimed}
 use Rattle.stp_happen.specs.Boxes.{PlainOwner, PlainBox, finer_box}
-use Rattle.stp_happen.specs.Owners.{PlainStep, PlainTimed, owners_of, finer_step, finer_timed, timed_before}
+use Rattle.stp_happen.specs.Owners.{PlainBoxStep, PlainBoxTimed, owners_of, finer_step, finer_timed, timed_before}
 use Rattle.stp_happen.specs.StepViews.{step_of, plain_timed, timed_of}
 use Rattle.stp_happen.proofs.Members.{same_tests, kept_alike}
 use Rattle.stp_happen.proofs.Ascending.{ascending_map}
@@ -87,7 +87,7 @@ same_length : {X Y : Type 0} (view : X → Y) (f : Y → Y) (xs news : List X) �
 same_length view f xs news e = sym (length-map news view) ∙ (ap length e ∙ (length-map (map view xs) f ∙ length-map xs view))
 
 -- the order of events is the same on the finer grid
-still_before : (k : ℕ) → 0 < k → (e f : PlainTimed) → timed_before (finer_timed k e) (finer_timed k f) ≡ timed_before e f
+still_before : (k : ℕ) → 0 < k → (e f : PlainBoxTimed) → timed_before (finer_timed k e) (finer_timed k f) ≡ timed_before e f
 still_before k h e f = ap (λ b. f.uncertain || (not e.uncertain && b)) (same_tests (nat_lt (k * e.high) (k * f.high)) (nat_lt e.high f.high) (down k e.high f.high) (up k e.high f.high h))
   where
     up : (k a b : ℕ) → 0 < k → nat_lt a b ≡ true → nat_lt (k * a) (k * b) ≡ true
@@ -99,11 +99,11 @@ still_before k h e f = ap (λ b. f.uncertain || (not e.uncertain && b)) (same_te
       | inr more ↦ absurd (let i : k * b ≤ k * a = times_up k b a more in let j : k * a < k * b = ltb-true (k * a) (k * b) l in omega arith)
     ]
 
-still_ordered : (k : ℕ) → 0 < k → (timed : List PlainTimed) → is_ascending timed_before timed ≡ true → is_ascending timed_before (map (finer_timed k) timed) ≡ true
+still_ordered : (k : ℕ) → 0 < k → (timed : List PlainBoxTimed) → is_ascending timed_before timed ≡ true → is_ascending timed_before (map (finer_timed k) timed) ≡ true
 still_ordered k h timed up = ascending_map timed_before (finer_timed k) timed ∙ (ap (λ before. is_ascending before timed) (fun_ext (λ e. fun_ext (λ f. still_before k h e f))) ∙ up)
 
 -- of the finer events as many pass a test that does not see moments
-as_many : (k : ℕ) (q : PlainTimed → Bool) → ((e : PlainTimed) → q (finer_timed k e) ≡ q e) → (timed events : List PlainTimed) → events ≡ map (finer_timed k) timed → length (filter q events) ≡ length (filter q timed)
+as_many : (k : ℕ) (q : PlainBoxTimed → Bool) → ((e : PlainBoxTimed) → q (finer_timed k e) ≡ q e) → (timed events : List PlainBoxTimed) → events ≡ map (finer_timed k) timed → length (filter q events) ≡ length (filter q timed)
 as_many k q same timed events e = ap (λ es. length (filter q es)) e ∙ (ap length (kept_alike (finer_timed k) q q timed (λ x i. same x)) ∙ length-map (filter q timed) (finer_timed k))
 
 -- what a refined list is, and what its items keep
@@ -117,18 +117,18 @@ refined_box grid k steps news timed events initial row goal low high b same same
   grid_low = let l : 1 ≤ grid = b.grid_low in mul-pos l low;
   grid_high = high;
   few = let l : length steps ≤ 500 = b.few in omega (arith, same_length step_of (finer_step k) steps news same.same);
-  few_fixed = let l : length (filter (λ (e : PlainTimed). not e.uncertain) (timed_of timed)) ≤ MAX_TIMED = b.few_fixed in omega (arith, as_many k (λ e. not e.uncertain) (λ e. refl) (timed_of timed) (timed_of events) same_timed.same);
-  few_chosen = let l : length (filter (λ (e : PlainTimed). e.uncertain) (timed_of timed)) ≤ MAX_EVENTS = b.few_chosen in omega (arith, as_many k (λ e. e.uncertain) (λ e. refl) (timed_of timed) (timed_of events) same_timed.same);
+  few_fixed = let l : length (filter (λ (e : PlainBoxTimed). not e.uncertain) (timed_of timed)) ≤ MAX_TIMED = b.few_fixed in omega (arith, as_many k (λ e. not e.uncertain) (λ e. refl) (timed_of timed) (timed_of events) same_timed.same);
+  few_chosen = let l : length (filter (λ (e : PlainBoxTimed). e.uncertain) (timed_of timed)) ≤ MAX_EVENTS = b.few_chosen in omega (arith, as_many k (λ e. e.uncertain) (λ e. refl) (timed_of timed) (timed_of events) same_timed.same);
   steps_in_range = same.keeps (length initial) b.steps_in_range;
   timed_in_range = same_timed.keeps (length initial) b.timed_in_range;
   timed_ordered = ap (is_ascending timed_before) same_timed.same ∙ still_ordered k low (timed_of timed) b.timed_ordered;
   goal_in_range = b.goal_in_range;
 })
 
-abbrev box_with : List PlainStep → List PlainTimed → (ℕ → Bool) → ((ℕ → Bool) → Bool) → PlainBox
+abbrev box_with : List PlainBoxStep → List PlainBoxTimed → (ℕ → Bool) → ((ℕ → Bool) → Bool) → PlainBox
 box_with steps timed initial goal = record { owners = owners_of steps timed; initial = initial; goal = goal }
 
-pub refined_is_finer : (k : ℕ) (steps news : List PlainStep) (timed events : List PlainTimed) (initial row : ℕ → Bool) (goal : (ℕ → Bool) → Bool) →
+pub refined_is_finer : (k : ℕ) (steps news : List PlainBoxStep) (timed events : List PlainBoxTimed) (initial row : ℕ → Bool) (goal : (ℕ → Bool) → Bool) →
     news ≡ map (finer_step k) steps → events ≡ map (finer_timed k) timed → row ≡ initial → box_with news events row goal ≡ finer_box k (box_with steps timed initial goal)
 refined_is_finer k steps news timed events initial row goal s t r =
     ap₂ (λ x y. box_with x y row goal) s t

@@ -1,25 +1,25 @@
 -- A vector is the durations of the uncertain steps, and then the chosen moments of events.
 use Rattle.std.proofs.Common.{◌≡◌, ℕ, ◌+◌, ◌≤◌, Bool, true, false, cond, List, [], ◌∷◌, ◌++◌, drop, filter, length, refl, ap, sym, ◌∙◌, subst, arith, true≢false}
-use Rattle.stp_happen.specs.Boxes.{PlainOwner, IsWithin, IsVector}
-use Rattle.stp_happen.specs.Owners.{PlainStep, PlainTimed, step_owner, step_owners, timed_owner, number_after, timed_owners, owners_of, AreDurations, AreMoments, VectorsAreDurationsAndMoments}
+use Rattle.stp_happen.specs.Boxes.{PlainOwner, IsInInterval, IsVector}
+use Rattle.stp_happen.specs.Owners.{PlainBoxStep, PlainBoxTimed, step_owner, step_owners, timed_owner, number_after, timed_owners, owners_of, AreDurations, AreMoments, VectorsAreDurationsAndMoments}
 
-abbrev uncertain_steps : List PlainStep → List PlainStep
+abbrev uncertain_steps : List PlainBoxStep → List PlainBoxStep
 uncertain_steps steps = filter (λ s. s.uncertain) steps
 
-abbrev chosen_events : List PlainTimed → List PlainTimed
+abbrev chosen_events : List PlainBoxTimed → List PlainBoxTimed
 chosen_events timed = filter (λ e. e.uncertain) timed
 
 -- ---- steps
 
 -- the durations of steps, and what is left for the rest
-abbrev Splits : List PlainStep → List PlainOwner → List ℕ → Type 0
+abbrev Splits : List PlainBoxStep → List PlainOwner → List ℕ → Type 0
 Splits steps rest v = (ds : List ℕ) × (more : List ℕ) × (v ≡ ds ++ more) × AreDurations (uncertain_steps steps) ds × IsVector rest more
 
-splits : (number : ℕ) (steps : List PlainStep) (rest : List PlainOwner) (v : List ℕ) → IsVector (step_owners number steps ++ rest) v → Splits steps rest v
+splits : (number : ℕ) (steps : List PlainBoxStep) (rest : List PlainOwner) (v : List ℕ) → IsVector (step_owners number steps ++ rest) v → Splits steps rest v
 splits number [] rest v h = ([], v, refl, refl, h)
 splits number (s ∷ ss) rest v h = by_kind number s ss rest v s.uncertain refl h.0 h.1 (splits (number + 1) ss rest)
   where
-    by_kind : (number : ℕ) (s : PlainStep) (ss : List PlainStep) (rest : List PlainOwner) (v : List ℕ) (b : Bool) → s.uncertain ≡ b → IsWithin (step_owner number s) v →
+    by_kind : (number : ℕ) (s : PlainBoxStep) (ss : List PlainBoxStep) (rest : List PlainOwner) (v : List ℕ) (b : Bool) → s.uncertain ≡ b → IsInInterval (step_owner number s) v →
         IsVector (step_owners (number + 1) ss ++ rest) (cond s.uncertain (drop 1 v) v) → ((w : List ℕ) → IsVector (step_owners (number + 1) ss ++ rest) w → Splits ss rest w) → Splits (s ∷ ss) rest v
     by_kind number s ss rest [] true e w h more = absurd (omega (arith, (w e).0))
     by_kind number s ss rest (d ∷ ds) true e w h more =
@@ -29,11 +29,11 @@ splits number (s ∷ ss) rest v h = by_kind number s ss rest v s.uncertain refl 
         let r = more v (subst (λ b. IsVector (step_owners (number + 1) ss ++ rest) (cond b (drop 1 v) v)) e h) in
         (r.0, r.1, r.2, subst (λ b. AreDurations (cond b (s ∷ uncertain_steps ss) (uncertain_steps ss)) r.0) (sym e) r.3, r.4)
 
-joins : (number : ℕ) (steps : List PlainStep) (rest : List PlainOwner) (ds more : List ℕ) → AreDurations (uncertain_steps steps) ds → IsVector rest more → IsVector (step_owners number steps ++ rest) (ds ++ more)
+joins : (number : ℕ) (steps : List PlainBoxStep) (rest : List PlainOwner) (ds more : List ℕ) → AreDurations (uncertain_steps steps) ds → IsVector rest more → IsVector (step_owners number steps ++ rest) (ds ++ more)
 joins number [] rest ds more h k = subst (λ l. IsVector rest (l ++ more)) (sym h) k
 joins number (s ∷ ss) rest ds more h k = by_kind number s ss rest ds more s.uncertain refl h (λ es g. joins (number + 1) ss rest es more g k)
   where
-    by_kind : (number : ℕ) (s : PlainStep) (ss : List PlainStep) (rest : List PlainOwner) (ds more : List ℕ) (b : Bool) → s.uncertain ≡ b → AreDurations (cond s.uncertain (s ∷ uncertain_steps ss) (uncertain_steps ss)) ds →
+    by_kind : (number : ℕ) (s : PlainBoxStep) (ss : List PlainBoxStep) (rest : List PlainOwner) (ds more : List ℕ) (b : Bool) → s.uncertain ≡ b → AreDurations (cond s.uncertain (s ∷ uncertain_steps ss) (uncertain_steps ss)) ds →
         ((es : List ℕ) → AreDurations (uncertain_steps ss) es → IsVector (step_owners (number + 1) ss ++ rest) (es ++ more)) → IsVector (step_owner number s ∷ (step_owners (number + 1) ss ++ rest)) (ds ++ more)
     by_kind number s ss rest [] more true e h rec = absurd (subst (λ b. AreDurations (cond b (s ∷ uncertain_steps ss) (uncertain_steps ss)) []) e h)
     by_kind number s ss rest (d ∷ ds) more true e h rec =
@@ -45,11 +45,11 @@ joins number (s ∷ ss) rest ds more h k = by_kind number s ss rest ds more s.un
 
 -- ---- events
 
-moments : (number : ℕ) (timed : List PlainTimed) (v : List ℕ) → IsVector (timed_owners number timed) v → AreMoments (chosen_events timed) v
+moments : (number : ℕ) (timed : List PlainBoxTimed) (v : List ℕ) → IsVector (timed_owners number timed) v → AreMoments (chosen_events timed) v
 moments number [] v h = h
 moments number (e ∷ es) v h = by_kind number e es v e.uncertain refl h.0 h.1 (moments (number_after number e) es)
   where
-    by_kind : (number : ℕ) (e : PlainTimed) (es : List PlainTimed) (v : List ℕ) (b : Bool) → e.uncertain ≡ b → IsWithin (timed_owner number e) v →
+    by_kind : (number : ℕ) (e : PlainBoxTimed) (es : List PlainBoxTimed) (v : List ℕ) (b : Bool) → e.uncertain ≡ b → IsInInterval (timed_owner number e) v →
         IsVector (timed_owners (number_after number e) es) (cond e.uncertain (drop 1 v) v) → ((w : List ℕ) → IsVector (timed_owners (number_after number e) es) w → AreMoments (chosen_events es) w) → AreMoments (chosen_events (e ∷ es)) v
     by_kind number e es [] true is w h more = absurd (omega (arith, (w is).0))
     by_kind number e es (t ∷ ts) true is w h more =
@@ -59,11 +59,11 @@ moments number (e ∷ es) v h = by_kind number e es v e.uncertain refl h.0 h.1 (
     by_kind number e es v false is w h more =
         subst (λ b. AreMoments (cond b (e ∷ chosen_events es) (chosen_events es)) v) (sym is) (more v (subst (λ b. IsVector (timed_owners (number_after number e) es) (cond b (drop 1 v) v)) is h))
 
-chosen : (number : ℕ) (timed : List PlainTimed) (v : List ℕ) → AreMoments (chosen_events timed) v → IsVector (timed_owners number timed) v
+chosen : (number : ℕ) (timed : List PlainBoxTimed) (v : List ℕ) → AreMoments (chosen_events timed) v → IsVector (timed_owners number timed) v
 chosen number [] v h = h
 chosen number (e ∷ es) v h = by_kind number e es v e.uncertain refl h (chosen (number_after number e) es)
   where
-    by_kind : (number : ℕ) (e : PlainTimed) (es : List PlainTimed) (v : List ℕ) (b : Bool) → e.uncertain ≡ b → AreMoments (cond e.uncertain (e ∷ chosen_events es) (chosen_events es)) v →
+    by_kind : (number : ℕ) (e : PlainBoxTimed) (es : List PlainBoxTimed) (v : List ℕ) (b : Bool) → e.uncertain ≡ b → AreMoments (cond e.uncertain (e ∷ chosen_events es) (chosen_events es)) v →
         ((w : List ℕ) → AreMoments (chosen_events es) w → IsVector (timed_owners (number_after number e) es) w) → IsVector (timed_owner number e ∷ timed_owners (number_after number e) es) v
     by_kind number e es [] true is h rec = absurd (subst (λ b. AreMoments (cond b (e ∷ chosen_events es) (chosen_events es)) []) is h)
     by_kind number e es (t ∷ ts) true is h rec =

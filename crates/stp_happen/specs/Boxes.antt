@@ -73,13 +73,13 @@ run_under box durations = record {
 }
 
 -- an uncertain owner has a duration, and ends within its bounds
-abbrev pub IsWithin : PlainOwner → List ℕ → Type 0
-IsWithin o durations = o.uncertain ≡ true → (0 < length durations) × (o.low ≤ o.start + slice_index durations 0) × (o.start + slice_index durations 0 ≤ o.high)
+abbrev pub IsInInterval : PlainOwner → List ℕ → Type 0
+IsInInterval o durations = o.uncertain ≡ true → (0 < length durations) × (o.low ≤ o.start + slice_index durations 0) × (o.start + slice_index durations 0 ≤ o.high)
 
 -- one duration for each uncertain owner, in order, and none besides
 abbrev pub IsVector : List PlainOwner → List ℕ → Type 0
 IsVector [] durations = durations ≡ []
-IsVector (o ∷ os) durations = IsWithin o durations × IsVector os (rest_of o durations)
+IsVector (o ∷ os) durations = IsInInterval o durations × IsVector os (rest_of o durations)
 
 -- ---- finer grids
 

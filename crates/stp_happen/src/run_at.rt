@@ -1,7 +1,7 @@
 //! The run of a box under chosen durations.
 
 ghost use Rattle.std.specs.Prelude.{◌≡◌, ℕ, ◌≤◌, ◌↔◌, ◌++◌, All, IfOk, OnOk, IsPermutation, IsSortedByKey};
-ghost use Rattle.stp_happen.specs.Boxes.{IsVector, IsWithin, end_of, entries_of_owner, entries_under, rest_of, run_under, spans_of_owner, spans_under};
+ghost use Rattle.stp_happen.specs.Boxes.{IsVector, IsInInterval, end_of, entries_of_owner, entries_under, rest_of, run_under, spans_of_owner, spans_under};
 ghost use Rattle.stp_happen.specs.BoxViews.{plain_box};
 ghost use Rattle.stp_happen.specs.Faults.{IsFirstFault};
 ghost use Rattle.stp_happen.specs.Orders.{IsInSomeOrder};
@@ -24,7 +24,7 @@ use stp_base::{List, Memory, StepId};
 
 /// When an owner ends, the first of the durations being its own if it is uncertain.
 fn end_at(owner: &Owner<'_>, durations: &[u128]) -> u128
-    requires { IsWithin (plain_owner owner.now) durations.now }
+    requires { IsInInterval (plain_owner owner.now) durations.now }
     ensures { result ≡ end_of (plain_owner owner.now) durations.now }
 {
     let high = owner.high;
@@ -37,7 +37,7 @@ fn end_at(owner: &Owner<'_>, durations: &[u128]) -> u128
 
 /// The durations of the owners after this one.
 fn rest_at<'v>(owner: &Owner<'_>, durations: &'v [u128]) -> &'v [u128]
-    requires { IsWithin (plain_owner owner.now) durations.now }
+    requires { IsInInterval (plain_owner owner.now) durations.now }
     ensures { result.now ≡ rest_of (plain_owner owner.now) durations.now }
 {
     if owner.uncertain {

@@ -8,7 +8,7 @@ use Rattle.std.specs.declared.cmp.Ordering.TheVariants.{Less, Equal, Greater}
 use Rattle.std.proofs.Math.Seq.{drop-nil}
 use Rattle.std.proofs.lemmas.Map.Keys.{le_from_is_le}
 use Rattle.std.proofs.lemmas.List.Elements.{All-head, All-tail}
-use Rattle.stp_happen.specs.Boxes.{PlainOwner, rest_of, IsWithin, IsVector}
+use Rattle.stp_happen.specs.Boxes.{PlainOwner, rest_of, IsInInterval, IsVector}
 use Rattle.stp_least.specs.Searching.{uncertain_among, AreFixed}
 
 -- the durations of the owners after these
@@ -30,10 +30,10 @@ pub vector_after : (before owners : List PlainOwner) (ds : List ℕ) → IsVecto
 vector_after [] owners ds v = v
 vector_after (b ∷ bs) owners ds v = subst (IsVector owners) (sym (after_more b bs ds)) (vector_after bs owners (rest_of b ds) v.1)
 
-pub vector_changed : (before : List PlainOwner) (s t : PlainOwner) (rest : List PlainOwner) (ds : List ℕ) → s.uncertain ≡ t.uncertain → IsVector (before ++ s ∷ rest) ds → IsWithin t (durations_after before ds) →
+pub vector_changed : (before : List PlainOwner) (s t : PlainOwner) (rest : List PlainOwner) (ds : List ℕ) → s.uncertain ≡ t.uncertain → IsVector (before ++ s ∷ rest) ds → IsInInterval t (durations_after before ds) →
     IsVector (before ++ t ∷ rest) ds
 vector_changed [] s t rest ds e v w = (w, subst (λ (u : Bool). IsVector rest (cond u (drop 1 ds) ds)) e v.1)
-vector_changed (b ∷ bs) s t rest ds e v w = (v.0, vector_changed bs s t rest (rest_of b ds) e v.1 (subst (IsWithin t) (after_more b bs ds) w))
+vector_changed (b ∷ bs) s t rest ds e v w = (v.0, vector_changed bs s t rest (rest_of b ds) e v.1 (subst (IsInInterval t) (after_more b bs ds) w))
 
 -- ---- dictionary order
 

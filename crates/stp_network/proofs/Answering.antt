@@ -7,7 +7,7 @@ use Rattle.std.proofs.lemmas.List.Elements.{All-map}
 use Rattle.stp_network.specs.declared.edge.Edge.{Edge}
 use Rattle.stp_base.specs.declared.limits.TheConstants.{MAX_POINTS}
 use Rattle.stp_network.specs.declared.limits.TheConstants.{KEPT_GRID, LATEST_KEPT}
-use Rattle.stp_network.specs.Network.{Constraint, IsEarliest, IsSatisfiable, IsWithin, PlainNetwork, Solves}
+use Rattle.stp_network.specs.Network.{Constraint, IsEarliest, IsSatisfiable, IsOverPoints, PlainNetwork, Solves}
 use Rattle.stp_network.specs.Demands.{IsMet}
 use Rattle.stp_network.specs.Edges.{IsMetBy, constraint_of}
 use Rattle.stp_network.specs.Lowest.{HasTimes, IsBelowAll, SolvesEdges}
@@ -34,25 +34,25 @@ edges_solved grid es time solves = record {
   met = all_of_map (IsMet grid time) es (all_met grid time (map constraint_of es) solves.meets);
 }
 
-within_of : (n : ℕ) (es : List Edge) → All (λ e. e.from < n) es → All (λ e. e.to < n) es → All (IsWithin n) (map constraint_of es)
-within_of n es from to = All-map (IsWithin n) constraint_of es (λ i d lt. (from i d lt, to i d lt))
+within_of : (n : ℕ) (es : List Edge) → All (λ e. e.from < n) es → All (λ e. e.to < n) es → All (IsOverPoints n) (map constraint_of es)
+within_of n es from to = All-map (IsOverPoints n) constraint_of es (λ i d lt. (from i d lt, to i d lt))
 
-pub kept_within : (limit n : ℕ) (times heads : List ℕ) (es : List Edge) (cs : List Constraint) → IsKept limit times heads es → n ≡ max 1 (length times) → cs ≡ map constraint_of es → All (IsWithin n) cs
+pub kept_within : (limit n : ℕ) (times heads : List ℕ) (es : List Edge) (cs : List Constraint) → IsKept limit times heads es → n ≡ max 1 (length times) → cs ≡ map constraint_of es → All (IsOverPoints n) cs
 kept_within limit n times heads es cs kept is constraints =
-    let P : List Constraint → Type 0 = λ x. All (IsWithin n) x in
+    let P : List Constraint → Type 0 = λ x. All (IsOverPoints n) x in
     subst P (sym constraints)
     (within_of n es (λ i d lt. omega (arith, kept.linked.from i d lt)) (λ i d lt. omega (arith, kept.linked.to i d lt)))
 
-pub edges_from : (n : ℕ) (es : List Edge) (cs : List Constraint) → cs ≡ map constraint_of es → All (IsWithin n) cs → All (λ e. e.from < n) es
+pub edges_from : (n : ℕ) (es : List Edge) (cs : List Constraint) → cs ≡ map constraint_of es → All (IsOverPoints n) cs → All (λ e. e.from < n) es
 edges_from n es cs is within =
-    let P : List Constraint → Type 0 = λ x. All (IsWithin n) x in
-    let all : All (λ e. IsWithin n (constraint_of e)) es = all_of_map (IsWithin n) es (subst P is within) in
+    let P : List Constraint → Type 0 = λ x. All (IsOverPoints n) x in
+    let all : All (λ e. IsOverPoints n (constraint_of e)) es = all_of_map (IsOverPoints n) es (subst P is within) in
     λ i d lt. (all i d lt).0
 
-pub edges_to : (n : ℕ) (es : List Edge) (cs : List Constraint) → cs ≡ map constraint_of es → All (IsWithin n) cs → All (λ e. e.to < n) es
+pub edges_to : (n : ℕ) (es : List Edge) (cs : List Constraint) → cs ≡ map constraint_of es → All (IsOverPoints n) cs → All (λ e. e.to < n) es
 edges_to n es cs is within =
-    let P : List Constraint → Type 0 = λ x. All (IsWithin n) x in
-    let all : All (λ e. IsWithin n (constraint_of e)) es = all_of_map (IsWithin n) es (subst P is within) in
+    let P : List Constraint → Type 0 = λ x. All (IsOverPoints n) x in
+    let all : All (λ e. IsOverPoints n (constraint_of e)) es = all_of_map (IsOverPoints n) es (subst P is within) in
     λ i d lt. (all i d lt).1
 
 kept_satisfiable : (limit : ℕ) (times heads : List ℕ) (es : List Edge) → IsKept limit times heads es → IsSatisfiable (map constraint_of es)
@@ -63,7 +63,7 @@ kept_satisfiable limit times heads es kept =
 not_satisfiable : (n : ℕ) (es : List Edge) (heads : List ℕ) (e : Edge) → n ≤ MAX_POINTS → AreLinked n es heads → e.from < n → e.to < n → HasNoPotential n es e → IsSatisfiable (map constraint_of (es ++ e ∷ [])) → ⊥
 not_satisfiable n es heads e few linked from to none (grid, time, some, solves) =
     let all : List Edge = es ++ e ∷ [] in
-    let within : All (IsWithin n) (map constraint_of all) = within_of n all (all_more (λ x. x.from < n) es e linked.from from) (all_more (λ x. x.to < n) es e linked.to to) in
+    let within : All (IsOverPoints n) (map constraint_of all) = within_of n all (all_more (λ x. x.from < n) es e linked.from from) (all_more (λ x. x.to < n) es e linked.to to) in
     let t : ℕ → ℕ = moved n grid KEPT_GRID time in
     let there : SolvesEdges KEPT_GRID all t =
     edges_solved KEPT_GRID all t (moved_solves n grid KEPT_GRID (map constraint_of all) time some (omega arith) within solves) in
@@ -99,7 +99,7 @@ pub finer_times : (n : ℕ) (times heads : List ℕ) (es : List Edge) → IsKept
 finer_times n times heads es kept is =
     let has : HasTimes KEPT_GRID es LATEST_KEPT = kept_has_times LATEST_KEPT times heads es kept in
     let t : ℕ → ℕ = moved n KEPT_GRID (n + 1) has.0 in
-    let within : All (IsWithin n) (map constraint_of es) = kept_within LATEST_KEPT n times heads es (map constraint_of es) kept is refl in
+    let within : All (IsOverPoints n) (map constraint_of es) = kept_within LATEST_KEPT n times heads es (map constraint_of es) kept is refl in
     let few : n ≤ MAX_POINTS = omega (arith, kept.few) in (
       t,
       edges_solved (n + 1) es t (moved_solves n KEPT_GRID (n + 1) (map constraint_of es) has.0 (omega arith) (omega arith) within (solves_of KEPT_GRID es has.0 has.1)),

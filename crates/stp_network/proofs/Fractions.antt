@@ -3,7 +3,7 @@ use Rattle.std.proofs.Common.{◌≡◌, ℕ, suc, zero, ◌+◌, ◌*◌, ◌/�
 use Rattle.std.proofs.Math.Nat.{mul-le-mul_left, mul-le-mul_right}
 use Rattle.std.proofs.lemmas.Bool.{cases_order}
 use Rattle.std.proofs.lemmas.Bool.Decides.{nat_tests}
-use Rattle.stp_network.specs.Network.{Constraint, IsWithin, Solves}
+use Rattle.stp_network.specs.Network.{Constraint, IsOverPoints, Solves}
 use Rattle.stp_network.specs.Demands.{negative_part, positive_part, strict_part, IsMet}
 use Rattle.stp_network.specs.Fractions.{OneGridDecides}
 use Rattle.stp_network.proofs.Demands.{all_met, all_meet}
@@ -134,7 +134,7 @@ moved_origin n k s x some origin =
     let e : s * (x 0 / k) ≡ s * 0 = ap (λ m. s * m) whole in
     omega arith
 
-pub moved_solves : (n k s : ℕ) (cs : List Constraint) (x : ℕ → ℕ) → 0 < k → n ≤ s → All (IsWithin n) cs → Solves k cs x → Solves s cs (moved n k s x)
+pub moved_solves : (n k s : ℕ) (cs : List Constraint) (x : ℕ → ℕ) → 0 < k → n ≤ s → All (IsOverPoints n) cs → Solves k cs x → Solves s cs (moved n k s x)
 moved_solves n k s cs x some ns within solves = record {
   origin = moved_origin n k s x some solves.origin;
   meets = all_meet s (moved n k s x) cs (λ i d lt.

@@ -28,8 +28,8 @@ abbrev pub IsSatisfiable : List Constraint → Type 0
 IsSatisfiable constraints = (grid : ℕ) × (time : ℕ → ℕ) × (0 < grid) × Solves grid constraints time
 
 -- a constraint is between two of the first so many points
-abbrev pub IsWithin : ℕ → Constraint → Type 0
-IsWithin points c = (c.from < points) × (c.to < points)
+abbrev pub IsOverPoints : ℕ → Constraint → Type 0
+IsOverPoints points c = (c.from < points) × (c.to < points)
 
 -- a time for each point: they meet all constraints, and no times that do are earlier anywhere
 pub record IsEarliest (grid points : ℕ) (constraints : List Constraint) (times : List ℕ) : Type 0 where

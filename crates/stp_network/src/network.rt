@@ -1,7 +1,7 @@
 //! Temporal networks.
 
 ghost use Rattle.std.specs.Prelude.{◌≡◌, ℕ, ◌+◌, ◌-◌, ◌<◌, ◌≤◌, ◌++◌, ◌∷◌, [], pos, ◌-ℤ◌, ◌≤ℤ◌, length, take, true, false, All, IsTrue, ◌↔◌, IfOk, OnOk, OnErr, if◌then◌else◌};
-ghost use Rattle.stp_network.specs.Network.{IsSatisfiable, IsWithin, IsEarliest};
+ghost use Rattle.stp_network.specs.Network.{IsSatisfiable, IsOverPoints, IsEarliest};
 
 use crate::edge::Edge;
 use crate::lowest::lowest_row;
@@ -115,7 +115,7 @@ impl Network {
         ensures points { result.points ≡ self.now.points }
         ensures edges { result.edges ≡ length self.now.constraints }
         ensures some { 0 < result.points }
-        ensures within { All (IsWithin result.points) self.now.constraints }
+        ensures within { All (IsOverPoints result.points) self.now.constraints }
     {
         Mark {
             points: self.rows.points() as u32,
@@ -128,7 +128,7 @@ impl Network {
         requires some { 0 < mark.points }
         requires points { mark.points ≤ self.old.points }
         requires edges { mark.edges ≤ length self.old.constraints }
-        requires within { All (IsWithin mark.points) (take mark.edges self.old.constraints) }
+        requires within { All (IsOverPoints mark.points) (take mark.edges self.old.constraints) }
         ensures points { self.new.points ≡ mark.points }
         ensures constraints { self.new.constraints ≡ take mark.edges self.old.constraints }
         ensures spare_points { self.new.spare_points ≡ self.old.spare_points + (self.old.points - mark.points) }

@@ -2,7 +2,7 @@
 use Rattle.std.proofs.Common.{◌≡◌, ℕ, ◌≤◌, Bool, true, false, List, [], ◌∷◌, ◌++◌, Contains, Option, Some, None, ◌⊎◌, inl, inr, refl, sym, ap, subst}
 use Rattle.std.proofs.lemmas.List.Elements.{Contains-append_cases, Contains-append_left, Contains-append_right}
 use Rattle.stp_cond.specs.Atoms.{PlainEvent}
-use Rattle.stp_happen.specs.Boxes.{PlainInside, PlainOwner, IsVector, IsWithin, end_of, entries_of_owner, entries_under, event_entries, inside_spans, rest_of, spans_of_owner, spans_under}
+use Rattle.stp_happen.specs.Boxes.{PlainInside, PlainOwner, IsVector, IsInInterval, end_of, entries_of_owner, entries_under, event_entries, inside_spans, rest_of, spans_of_owner, spans_under}
 use Rattle.stp_happen.specs.Plain.{PlainEntry, PlainSpan}
 use Rattle.stp_happen.proofs.Members.{here, there, member_cases, member_nil}
 
@@ -37,11 +37,11 @@ has_event number time event e s = subst (λ o. Contains (event_entries number ti
 has_span : (o : PlainOwner) (end : ℕ) (inside : Option PlainInside) (i : PlainInside) → inside ≡ Some i → Contains (inside_spans o.number o.start end inside) (span_at o end i)
 has_span o end inside i s = subst (λ x. Contains (inside_spans o.number o.start end x) (span_at o end i)) (sym s) (here (span_at o end i) [])
 
-ends_late : (o : PlainOwner) (ds : List ℕ) (b : Bool) → o.uncertain ≡ b → IsWithin o ds → o.low ≤ o.high → o.low ≤ end_of o ds
+ends_late : (o : PlainOwner) (ds : List ℕ) (b : Bool) → o.uncertain ≡ b → IsInInterval o ds → o.low ≤ o.high → o.low ≤ end_of o ds
 ends_late o ds true u w l = rw u (w u).1
 ends_late o ds false u w l = rw u l
 
-in_first : (o : PlainOwner) (os : List PlainOwner) (ds : List ℕ) → IsWithin o ds → IsIn (entries_under (o ∷ os) ds) (spans_under (o ∷ os) ds) o (end_of o ds)
+in_first : (o : PlainOwner) (os : List PlainOwner) (ds : List ℕ) → IsInInterval o ds → IsIn (entries_under (o ∷ os) ds) (spans_under (o ∷ os) ds) o (end_of o ds)
 in_first o os ds w = record {
   first = λ e s. Contains-append_left (entries_of_owner o (end_of o ds)) (entries_under os (rest_of o ds)) (entry_at o.number o.start e) (Contains-append_left (event_entries o.number o.start o.first) (event_entries o.number (end_of o ds) o.last) (entry_at o.number o.start e) (has_event o.number o.start o.first e s));
   last = λ e s. Contains-append_left (entries_of_owner o (end_of o ds)) (entries_under os (rest_of o ds)) (entry_at o.number (end_of o ds) e) (Contains-append_right (event_entries o.number o.start o.first) (event_entries o.number (end_of o ds) o.last) (entry_at o.number (end_of o ds) e) (has_event o.number (end_of o ds) o.last e s));

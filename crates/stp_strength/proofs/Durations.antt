@@ -5,7 +5,7 @@ use Rattle.std.proofs.lemmas.List.{map-append}
 use Rattle.std.proofs.lemmas.List.Elements.{All-head, All-tail, Contains-append_left, Contains-append_right}
 use Rattle.stp_cond.specs.Atoms.{PlainEvent}
 use Rattle.stp_happen.specs.Plain.{PlainEntry, PlainSpan, PlainRun}
-use Rattle.stp_happen.specs.Boxes.{PlainInside, PlainOwner, PlainBox, end_of, rest_of, event_entries, entries_of_owner, inside_spans, entries_under, spans_under, run_under, IsWithin, IsVector}
+use Rattle.stp_happen.specs.Boxes.{PlainInside, PlainOwner, PlainBox, end_of, rest_of, event_entries, entries_of_owner, inside_spans, entries_under, spans_under, run_under, IsInInterval, IsVector}
 use Rattle.stp_happen.specs.Owners.{AreTimedApart, AreNumbered}
 use Rattle.stp_happen.proofs.Members.{here, there, each_of, all_of, and_both, and_right}
 use Rattle.stp_window.specs.Windows.{Point, OpenSpan, entry_at, span_at, run_when, IsInWindow, IsChoice}
@@ -148,7 +148,7 @@ ends_are (o ∷ os) ds n = (
       (ends_are os (rest_of o ds) n.1),
 )
 
-end_within : (o : PlainOwner) (ds : List ℕ) → IsWellMade o → IsWithin o ds → (u : Bool) → o.uncertain ≡ u → (o.low ≤ end_of o ds) × (end_of o ds ≤ o.high)
+end_within : (o : PlainOwner) (ds : List ℕ) → IsWellMade o → IsInInterval o ds → (u : Bool) → o.uncertain ≡ u → (o.low ≤ end_of o ds) × (end_of o ds ≤ o.high)
 end_within o ds w v true e = rw e (let r = v e in (r.1, r.2))
 end_within o ds w v false e = rw e (let low : o.low ≡ o.high = w.certain e in (omega arith, omega arith))
 
@@ -156,7 +156,7 @@ nearest_to : (t : ℕ) (p : Point) → p.low ≤ t → t ≤ p.high → nearest 
 nearest_to t p l h = omega arith
 
 -- whatever the look-up gives for a certain owner, its end is nearest
-end_fits : (t : ℕ) (o : PlainOwner) (ds : List ℕ) → IsWellMade o → IsWithin o ds → (o.uncertain ≡ true → t ≡ end_of o ds) → (u : Bool) → o.uncertain ≡ u → nearest t (end_point o) ≡ end_of o ds
+end_fits : (t : ℕ) (o : PlainOwner) (ds : List ℕ) → IsWellMade o → IsInInterval o ds → (o.uncertain ≡ true → t ≡ end_of o ds) → (u : Bool) → o.uncertain ≡ u → nearest t (end_point o) ≡ end_of o ds
 end_fits t o ds w v h true e =
     let inside = end_within o ds w v true e in
     ap (λ x. nearest x (end_point o)) (h e) ∙ nearest_to (end_of o ds) (end_point o) inside.0 inside.1

@@ -10,7 +10,7 @@ use Rattle.std.proofs.lemmas.List.Elements.{Contains-append_cases, Contains-appe
 use Rattle.stp_happen.specs.declared.fault.Fault.{Fault}
 use Rattle.stp_happen.specs.Plain.{Executes}
 use Rattle.stp_happen.specs.Faults.{faults_of}
-use Rattle.stp_happen.specs.Boxes.{PlainBox, run_under, IsWithin, IsVector, PlainOwner}
+use Rattle.stp_happen.specs.Boxes.{PlainBox, run_under, IsInInterval, IsVector, PlainOwner}
 use Rattle.stp_happen.specs.LeastFailure.{IsFailure, IsLeastFailure}
 use Rattle.stp_happen.proofs.Members.{here, there, member_cases, member_nil, member_map, mapped_member, kept_member, member_of_kept}
 use Rattle.stp_happen.proofs.NoFault.{executes, none_if_executes}
@@ -119,7 +119,7 @@ vector_there (s ∷ ss) ds v = by_kind s ss ds s.uncertain refl v.0 v.1 (vector_
         in_with_first (filter (is_duration s) (up_to s.high)) (vectors ss) d ds
         (kept_member (is_duration s) (up_to s.high) d (in_up_to s.high d (omega arith)) (duration s d low high)) i
 
-    by_kind : (s : PlainOwner) (ss : List PlainOwner) (ds : List ℕ) (u : Bool) → s.uncertain ≡ u → IsWithin s ds → IsVector ss (cond s.uncertain (drop 1 ds) ds) → ((l : List ℕ) → IsVector ss l → Contains (vectors ss) l) →
+    by_kind : (s : PlainOwner) (ss : List PlainOwner) (ds : List ℕ) (u : Bool) → s.uncertain ≡ u → IsInInterval s ds → IsVector ss (cond s.uncertain (drop 1 ds) ds) → ((l : List ℕ) → IsVector ss l → Contains (vectors ss) l) →
         Contains (cond s.uncertain (with_first (filter (is_duration s) (up_to s.high)) (vectors ss)) (vectors ss)) ds
     by_kind s ss ds true e w v more = subst (λ (u : Bool). Contains (cond u (with_first (filter (is_duration s) (up_to s.high)) (vectors ss)) (vectors ss)) ds) (sym e)
         (uncertain_there s ss ds (w e) (more (drop 1 ds) (subst (λ (u : Bool). IsVector ss (cond u (drop 1 ds) ds)) e v)))

@@ -1,7 +1,7 @@
 -- A box is strong where one with wider windows is.
 use Rattle.std.proofs.Common.{◌≡◌, ℕ, ◌+◌, ◌*◌, ◌≤◌, Bool, true, false, cond, List, [], ◌∷◌, ◌++◌, map, drop, slice_index, refl, ap, ap₂, sym, ◌∙◌, subst, arith}
 use Rattle.stp_happen.specs.Plain.{PlainEntry, PlainSpan, PlainRun, Executes}
-use Rattle.stp_happen.specs.Boxes.{PlainBox, end_of, rest_of, run_under, IsWithin, IsVector, finer_box, PlainOwner, entries_of_owner, spans_of_owner, entries_under, spans_under, finer_owner}
+use Rattle.stp_happen.specs.Boxes.{PlainBox, end_of, rest_of, run_under, IsInInterval, IsVector, finer_box, PlainOwner, entries_of_owner, spans_of_owner, entries_under, spans_under, finer_owner}
 use Rattle.stp_strength.proofs.Strong.{times_up}
 use Rattle.stp_strength.specs.Narrower.{IsNarrowed, AreNarrowed, IsNarrowedBox, NarrowerBoxesAreStrong}
 
@@ -46,7 +46,7 @@ spans_same (o ∷ os) (w ∷ ws) n ds =
     (spans_of_same o w n.0 (end_of o ds) ∙ ap (spans_of_owner w) (end_same o w n.0 ds))
     (ap (spans_under os) (rest_same o w n.0 ds) ∙ spans_same os ws n.1 (rest_of w ds))
 
-within_wide : (s wide : PlainOwner) → IsNarrowed s wide → (ds : List ℕ) → IsWithin s ds → IsWithin wide ds
+within_wide : (s wide : PlainOwner) → IsNarrowed s wide → (ds : List ℕ) → IsInInterval s ds → IsInInterval wide ds
 within_wide s wide n ds w u =
     let r = w (sym (kind_same s wide n) ∙ u) in
     let e : wide.start ≡ s.start = start_same s wide n in

@@ -10,7 +10,7 @@ use Rattle.stp_happen.specs.declared.boxes.BoxStep.{BoxStep}
 use Rattle.stp_happen.specs.declared.boxes.BoxTimed.{BoxTimed}
 use Rattle.stp_happen.specs.Boxes.{PlainOwner}
 use Rattle.stp_happen.specs.BoxViews.{plain_box}
-use Rattle.stp_happen.specs.Owners.{PlainStep, step_owner, step_owners, timed_owner, timed_owners, number_after, owners_of}
+use Rattle.stp_happen.specs.Owners.{PlainBoxStep, step_owner, step_owners, timed_owner, timed_owners, number_after, owners_of}
 use Rattle.stp_happen.specs.StepViews.{step_of, steps_of, plain_timed, timed_of}
 use Rattle.stp_happen.proofs.Refining.{item_here}
 use Rattle.stp_happen.proofs.Members.{and_left, and_right}
@@ -97,22 +97,22 @@ pub with_kept : (seen : List Point) (a t end : ℕ) (event : PlainEvent) (last :
 with_kept seen a t end event last p h e so_far test = kept seen a t last p so_far (ap₂ (λ (d : PlainEvent) (m : ℕ). writes d a && (nat_le m t && not (has_later m last))) e h ∙ test)
 
 -- one more step
-abbrev pub first_of : ℕ → PlainStep → Point
+abbrev pub first_of : ℕ → PlainBoxStep → Point
 first_of number s = first_point (step_owner number s)
 
-abbrev pub last_of : ℕ → PlainStep → PlainEvent → Point
+abbrev pub last_of : ℕ → PlainBoxStep → PlainEvent → Point
 last_of number s event = record { low = s.low; high = s.high; step = number; event = event }
 
-abbrev points_with : ℕ → PlainStep → Option PlainEvent → List Point
+abbrev points_with : ℕ → PlainBoxStep → Option PlainEvent → List Point
 points_with number s last = first_of number s ∷ event_points number s.low s.high last
 
-pub two_events : (seen : List Point) (a t number : ℕ) (s : PlainStep) (event : PlainEvent) (last : Option Write) → s.last ≡ Some event →
+pub two_events : (seen : List Point) (a t number : ℕ) (s : PlainBoxStep) (event : PlainEvent) (last : Option Write) → s.last ≡ Some event →
     IsLastWrite ((seen ++ first_of number s ∷ []) ++ last_of number s event ∷ []) a t last → IsLastWrite (seen ++ points_of_owner (step_owner number s)) a t last
 two_events seen a t number s event last e so_far =
     subst (λ ps. IsLastWrite ps a t last)
     (append_assoc seen (first_of number s ∷ []) (last_of number s event ∷ []) ∙ ap (λ (o : Option PlainEvent). seen ++ points_with number s o) (sym e)) so_far
 
-pub one_event : (seen : List Point) (a t number : ℕ) (s : PlainStep) (last : Option Write) → s.last ≡ None →
+pub one_event : (seen : List Point) (a t number : ℕ) (s : PlainBoxStep) (last : Option Write) → s.last ≡ None →
     IsLastWrite (seen ++ first_of number s ∷ []) a t last → IsLastWrite (seen ++ points_of_owner (step_owner number s)) a t last
 one_event seen a t number s last e so_far = subst (λ ps. IsLastWrite ps a t last) (ap (λ (o : Option PlainEvent). seen ++ points_with number s o) (sym e)) so_far
 

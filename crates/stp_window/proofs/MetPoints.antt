@@ -8,7 +8,7 @@ use Rattle.stp_cond.specs.Atoms.{PlainEvent}
 use Rattle.stp_happen.specs.declared.boxes.BoxRun.{BoxRun}
 use Rattle.stp_happen.specs.Boxes.{PlainOwner}
 use Rattle.stp_happen.specs.BoxViews.{plain_box}
-use Rattle.stp_happen.specs.Owners.{PlainStep, PlainTimed, step_owner, step_owners, timed_owners, owners_of}
+use Rattle.stp_happen.specs.Owners.{PlainBoxStep, PlainBoxTimed, step_owner, step_owners, timed_owners, owners_of}
 use Rattle.stp_happen.specs.StepViews.{steps_of, timed_of}
 use Rattle.stp_happen.proofs.Members.{here, there, member_map}
 use Rattle.stp_happen.proofs.OwnerLists.{in_timed}
@@ -19,7 +19,7 @@ use Rattle.stp_window.specs.declared.windows.Window.{Window}
 use Rattle.stp_window.specs.Boxed.{windows_in_run}
 use Rattle.stp_window.specs.Met.{AreAtOdds, NoneMeeting}
 use Rattle.stp_window.specs.OwnerWindows.{first_point, end_point, points_of_owners}
-use Rattle.stp_window.specs.Points.{step_numbered, last_point, point_at, IsWithin}
+use Rattle.stp_window.specs.Points.{step_numbered, last_point, point_at, IsInWindow}
 use Rattle.stp_window.specs.Sweep.{Clash, ClashAt, IsAt, NoneMeet}
 use Rattle.stp_window.specs.Views.{point_of, points_of}
 use Rattle.stp_window.specs.Windows.{Point}
@@ -37,7 +37,7 @@ some_is_not_none x e = cc
 
 -- ---- each point that is there has a window
 
-owner_numbered : (steps : List PlainStep) (m k : ℕ) (s : PlainStep) → slice_get steps k ≡ Some s → Contains (step_owners m steps) (step_owner (m + k) s)
+owner_numbered : (steps : List PlainBoxStep) (m k : ℕ) (s : PlainBoxStep) → slice_get steps k ≡ Some s → Contains (step_owners m steps) (step_owner (m + k) s)
 owner_numbered [] m k s e = absurd (cc)
 owner_numbered (x ∷ xs) m zero s e =
     let same : m ≡ m + 0 = omega arith in
@@ -47,23 +47,23 @@ owner_numbered (x ∷ xs) m (suc k) s e =
     subst (λ n. Contains (step_owners m (x ∷ xs)) (step_owner n s)) same (there (step_owner m x) (step_owners (m + 1) xs) (step_owner ((m + 1) + k) s) (owner_numbered xs (m + 1) k s e))
 
 -- the owner of the step with a number
-step_there : (steps : List PlainStep) (timed : List PlainTimed) (number : ℕ) (s : PlainStep) → step_numbered steps number ≡ Some s → Contains (owners_of steps timed) (step_owner number s)
+step_there : (steps : List PlainBoxStep) (timed : List PlainBoxTimed) (number : ℕ) (s : PlainBoxStep) → step_numbered steps number ≡ Some s → Contains (owners_of steps timed) (step_owner number s)
 step_there steps timed zero s e = absurd (cc)
 step_there steps timed (suc k) s e =
     let same : 1 + k ≡ suc k = omega arith in
     Contains-append_left (step_owners 1 steps) (timed_owners (length steps + 1) timed) (step_owner (suc k) s) (subst (λ n. Contains (step_owners 1 steps) (step_owner n s)) same (owner_numbered steps 1 k s e))
 
-first_in : (owners : List PlainOwner) (number : ℕ) (found : Option PlainStep) (p : Point) → ((s : PlainStep) → found ≡ Some s → Contains owners (step_owner number s)) → option_map (λ s. first_point (step_owner number s)) found ≡ Some p →
+first_in : (owners : List PlainOwner) (number : ℕ) (found : Option PlainBoxStep) (p : Point) → ((s : PlainBoxStep) → found ≡ Some s → Contains owners (step_owner number s)) → option_map (λ s. first_point (step_owner number s)) found ≡ Some p →
     Contains (points_of_owners owners) p
 first_in owners number None p within e = absurd (cc)
 first_in owners number (Some s) p within e = subst (Contains (points_of_owners owners)) (some_same e) (first_there owners (step_owner number s) (within s refl) (some_is_not_none s.first))
 
-last_in : (owners : List PlainOwner) (number : ℕ) (found : Option PlainStep) (p : Point) → ((s : PlainStep) → found ≡ Some s → Contains owners (step_owner number s)) → option_and_then (last_point number) found ≡ Some p →
+last_in : (owners : List PlainOwner) (number : ℕ) (found : Option PlainBoxStep) (p : Point) → ((s : PlainBoxStep) → found ≡ Some s → Contains owners (step_owner number s)) → option_and_then (last_point number) found ≡ Some p →
     Contains (points_of_owners owners) p
 last_in owners number None p within e = absurd (cc)
 last_in owners number (Some s) p within e = with_last owners number s s.last refl p (within s refl) e
   where
-    with_last : (owners : List PlainOwner) (number : ℕ) (s : PlainStep) (last : Option PlainEvent) → s.last ≡ last → (p : Point) → Contains owners (step_owner number s) → option_map (λ event. end_point (step_owner number s)) last ≡ Some p → Contains (points_of_owners owners) p
+    with_last : (owners : List PlainOwner) (number : ℕ) (s : PlainBoxStep) (last : Option PlainEvent) → s.last ≡ last → (p : Point) → Contains owners (step_owner number s) → option_map (λ event. end_point (step_owner number s)) last ≡ Some p → Contains (points_of_owners owners) p
     with_last owners number s None is p within e = absurd (cc)
     with_last owners number s (Some event) is p within e = subst (Contains (points_of_owners owners)) (some_same e) (last_there owners (step_owner number s) within (λ none. some_is_not_none event (sym is ∙ none)))
 
@@ -71,7 +71,7 @@ timed_in : (owners : List PlainOwner) (found : Option PlainOwner) (p : Point) �
 timed_in owners None p within e = absurd (cc)
 timed_in owners (Some o) p within e = let h = within o refl in subst (Contains (points_of_owners owners)) (some_same e) (last_there owners o h.0 h.1)
 
-pub point_in : (steps : List PlainStep) (timed : List PlainTimed) (point : PointOf) (p : Point) → point_at steps timed point ≡ Some p → Contains (points_of_owners (owners_of steps timed)) p
+pub point_in : (steps : List PlainBoxStep) (timed : List PlainBoxTimed) (point : PointOf) (p : Point) → point_at steps timed point ≡ Some p → Contains (points_of_owners (owners_of steps timed)) p
 point_in steps timed (First step) p e = first_in (owners_of steps timed) step.0 (step_numbered steps step.0) p (λ s h. step_there steps timed step.0 s h) e
 point_in steps timed (Last step) p e = last_in (owners_of steps timed) step.0 (step_numbered steps step.0) p (λ s h. step_there steps timed step.0 s h) e
 point_in steps timed (Timed place) p e =
@@ -82,7 +82,7 @@ point_in steps timed (Timed place) p e =
     (Contains-append_right (step_owners 1 steps) events o i, λ none. some_is_not_none r.e.event (sym (ap (λ (x : PlainOwner). x.last) r.is) ∙ none))) e
 
 -- where no windows meet and interfere, no points do
-pub no_points_meet : (steps : List PlainStep) (timed : List PlainTimed) (points : List Point) → points ≡ points_of_owners (owners_of steps timed) → NoneMeet points → NoneMeeting steps timed
+pub no_points_meet : (steps : List PlainBoxStep) (timed : List PlainBoxTimed) (points : List Point) → points ≡ points_of_owners (owners_of steps timed) → NoneMeet points → NoneMeeting steps timed
 no_points_meet steps timed points all none one other p q odds moment =
     none p q (subst (λ ps. Contains ps p) (sym all) (point_in steps timed one p odds.one_there)) (subst (λ ps. Contains ps q) (sym all) (point_in steps timed other q odds.other_there)) (record {
       other = odds.different;
@@ -114,10 +114,10 @@ within_points name points windows i w names at =
     omega arith
 
 -- the points at these places meet, at the latest from the later of their beginnings on
-pub points_meet : (steps : List PlainStep) (timed : List PlainTimed) (points : List PointOf) (windows : List Window) (i j : ℕ) (d e : PointOf) (v w : Window) (t : ℕ) →
+pub points_meet : (steps : List PlainBoxStep) (timed : List PlainBoxTimed) (points : List PointOf) (windows : List Window) (i j : ℕ) (d e : PointOf) (v w : Window) (t : ℕ) →
     map (point_at steps timed) points ≡ map Some (points_of windows) → IsAt windows i v → IsAt windows j w → Clash (point_of v) (point_of w) →
     (v.low ≤ t) × (w.low ≤ t) → ((u : ℕ) → v.low ≤ u → w.low ≤ u → t ≤ u) → v.low ≤ v.high → w.low ≤ w.high →
-    (p : Point) × (q : Point) × AreAtOdds steps timed (slice_index_or points i d) (slice_index_or points j e) p q × IsWithin t p × IsWithin t q
+    (p : Point) × (q : Point) × AreAtOdds steps timed (slice_index_or points i d) (slice_index_or points j e) p q × IsInWindow t p × IsInWindow t q
 points_meet steps timed points windows i j d e v w t names at other clash within least up too = (
   point_of v,
   point_of w,
@@ -145,7 +145,7 @@ none_in_box boxed windows found all is h = no_points_meet (steps_of boxed.steps)
 pub meeting_in_box : (boxed : BoxRun) (windows : List Window) (points first second : List PointOf) (found : Option Places) (m : Places) (d e : PointOf) (a b : Window) (t : ℕ) → points_of windows ≡ points_of_owners (plain_box boxed).owners →
     map (point_at (steps_of boxed.steps) (timed_of boxed.timed)) points ≡ map Some (points_of_owners (plain_box boxed).owners) → first ≡ points → second ≡ points → found ≡ Some m →
     MatchOption found (NoneMeet (points_of windows)) (λ k. ClashAt windows k.one k.other) → a ≡ get_or windows m.one a → b ≡ get_or windows m.other b → (a.low ≤ t) × (b.low ≤ t) → ((u : ℕ) → a.low ≤ u → b.low ≤ u → t ≤ u) →
-    (p : Point) × (q : Point) × AreAtOdds (steps_of boxed.steps) (timed_of boxed.timed) (slice_index_or first m.one d) (slice_index_or second m.other e) p q × IsWithin t p × IsWithin t q
+    (p : Point) × (q : Point) × AreAtOdds (steps_of boxed.steps) (timed_of boxed.timed) (slice_index_or first m.one d) (slice_index_or second m.other e) p q × IsInWindow t p × IsInWindow t q
 meeting_in_box boxed windows points first second found m d e a b t all names f g is h one other within least =
     let clash : ClashAt windows m.one m.other = subst (λ (r : Option Places). MatchOption r (NoneMeet (points_of windows)) (λ k. ClashAt windows k.one k.other)) is h in
     let v = clash.0 in
@@ -156,6 +156,6 @@ meeting_in_box boxed windows points first second found m d e a b t all names f g
     let y : b ≡ w = one_at windows m.other b w (too.0, sym other) too in
     let together : (v.low ≤ t) × (w.low ≤ t) = subst (λ (c : Window). (c.low ≤ t) × (w.low ≤ t)) x (subst (λ (c : Window). (a.low ≤ t) × (c.low ≤ t)) y within) in
     let earliest : (u : ℕ) → v.low ≤ u → w.low ≤ u → t ≤ u = subst (λ (c : Window). (u : ℕ) → c.low ≤ u → w.low ≤ u → t ≤ u) x (subst (λ (c : Window). (u : ℕ) → a.low ≤ u → c.low ≤ u → t ≤ u) y least) in
-    subst (λ xs. (p : Point) × (q : Point) × AreAtOdds (steps_of boxed.steps) (timed_of boxed.timed) (slice_index_or xs m.one d) (slice_index_or second m.other e) p q × IsWithin t p × IsWithin t q) (sym f)
-    (subst (λ xs. (p : Point) × (q : Point) × AreAtOdds (steps_of boxed.steps) (timed_of boxed.timed) (slice_index_or points m.one d) (slice_index_or xs m.other e) p q × IsWithin t p × IsWithin t q) (sym g)
+    subst (λ xs. (p : Point) × (q : Point) × AreAtOdds (steps_of boxed.steps) (timed_of boxed.timed) (slice_index_or xs m.one d) (slice_index_or second m.other e) p q × IsInWindow t p × IsInWindow t q) (sym f)
+    (subst (λ xs. (p : Point) × (q : Point) × AreAtOdds (steps_of boxed.steps) (timed_of boxed.timed) (slice_index_or points m.one d) (slice_index_or xs m.other e) p q × IsInWindow t p × IsInWindow t q) (sym g)
     (points_meet (steps_of boxed.steps) (timed_of boxed.timed) points windows m.one m.other d e v w t (names ∙ ap (map Some) (sym all)) at too clash.2.2 together earliest (goes_up boxed windows m.one v all at) (goes_up boxed windows m.other w all too)))

@@ -6,7 +6,7 @@ use Rattle.std.proofs.lemmas.Option.{slice_get-map, slice_get_read}
 use Rattle.stp_happen.specs.declared.boxes.BoxStep.{BoxStep}
 use Rattle.stp_happen.specs.declared.boxes.BoxTimed.{BoxTimed}
 use Rattle.stp_happen.specs.Boxes.{PlainOwner}
-use Rattle.stp_happen.specs.Owners.{PlainStep, PlainTimed, step_owner, step_owners, timed_owner, timed_owners, number_after, owners_of}
+use Rattle.stp_happen.specs.Owners.{PlainBoxStep, PlainBoxTimed, step_owner, step_owners, timed_owner, timed_owners, number_after, owners_of}
 use Rattle.stp_happen.specs.StepViews.{step_of, steps_of, plain_timed, timed_of}
 use Rattle.stp_happen.proofs.Refining.{item_here}
 use Rattle.stp_window.specs.Windows.{Point}
@@ -25,7 +25,7 @@ step_at steps i s l is =
     ap (step_numbered (steps_of steps)) next ∙ (slice_get-map step_of steps i ∙ ap (option_map step_of) (slice_get_read steps (length steps) i s refl l is))
 
 -- one more step
-pub steps_more : (timed : List PlainTimed) (steps : List BoxStep) (i : ℕ) (s : BoxStep) → i < length steps → s ≡ get_or steps i s → (number : ℕ) (done new : List PointOf) (whole : List (Option Point)) →
+pub steps_more : (timed : List PlainBoxTimed) (steps : List BoxStep) (i : ℕ) (s : BoxStep) → i < length steps → s ≡ get_or steps i s → (number : ℕ) (done new : List PointOf) (whole : List (Option Point)) →
     map (point_at (steps_of steps) timed) new ≡ map (point_at (steps_of steps) timed) done ++ map Some (points_of_owner (step_owner number (step_of s))) →
     map (point_at (steps_of steps) timed) done ++ map Some (points_of_owners (step_owners number (steps_of (drop i steps)))) ≡ whole →
     map (point_at (steps_of steps) timed) new ++ map Some (points_of_owners (step_owners (number + 1) (steps_of (drop (i + 1) steps)))) ≡ whole
@@ -38,7 +38,7 @@ steps_more timed steps i s l is number done new whole more all =
     ∙ (ap (λ ps. so_far ++ ps) (sym (map-append Some here rest)) ∙ (ap (λ ss. so_far ++ map Some (points_of_owners (step_owners number ss))) (sym (item_here step_of steps i s l is)) ∙ all)))
 
 -- in the end all steps are there
-pub steps_all : (timed : List PlainTimed) (steps : List BoxStep) (i : ℕ) → length steps ≤ i → (number : ℕ) (done : List PointOf) (whole : List (Option Point)) →
+pub steps_all : (timed : List PlainBoxTimed) (steps : List BoxStep) (i : ℕ) → length steps ≤ i → (number : ℕ) (done : List PointOf) (whole : List (Option Point)) →
     map (point_at (steps_of steps) timed) done ++ map Some (points_of_owners (step_owners number (steps_of (drop i steps)))) ≡ whole → map (point_at (steps_of steps) timed) done ≡ whole
 steps_all timed steps i l number done whole all =
     let so_far = map (point_at (steps_of steps) timed) done in
@@ -46,14 +46,14 @@ steps_all timed steps i l number done whole all =
 
 -- ---- events
 
-abbrev pub timed_points : ℕ → List PlainTimed → List (Option Point)
+abbrev pub timed_points : ℕ → List PlainBoxTimed → List (Option Point)
 timed_points number timed = map (λ o. Some (end_point o)) (timed_owners number timed)
 
-pub points_of_timed : (number : ℕ) (timed : List PlainTimed) → map Some (points_of_owners (timed_owners number timed)) ≡ timed_points number timed
+pub points_of_timed : (number : ℕ) (timed : List PlainBoxTimed) → map Some (points_of_owners (timed_owners number timed)) ≡ timed_points number timed
 points_of_timed number [] = refl
 points_of_timed number (e ∷ es) = ap (λ ps. Some (end_point (timed_owner number e)) ∷ ps) (points_of_timed (number_after number e) es)
 
-pub length_of_timed : (number : ℕ) (timed : List PlainTimed) → length (timed_owners number timed) ≡ length timed
+pub length_of_timed : (number : ℕ) (timed : List PlainBoxTimed) → length (timed_owners number timed) ≡ length timed
 length_of_timed number [] = refl
 length_of_timed number (e ∷ es) = ap suc (length_of_timed (number_after number e) es)
 
@@ -66,7 +66,7 @@ owner_there (o ∷ os) (suc k) l =
     owner_there os k (omega arith) ∙ ap (λ n. option_map end_point (slice_get os k) ∷ drop n (map (λ x. Some (end_point x)) (o ∷ os))) next
 
 -- one more event
-pub events_more : (steps : List PlainStep) (timed : List BoxTimed) (place : ℕ) → place < length timed → (done new : List PointOf) (whole : List (Option Point)) →
+pub events_more : (steps : List PlainBoxStep) (timed : List BoxTimed) (place : ℕ) → place < length timed → (done new : List PointOf) (whole : List (Option Point)) →
     new ≡ done ++ Timed place ∷ [] →
     map (point_at steps (timed_of timed)) done ++ drop place (timed_points (length steps + 1) (timed_of timed)) ≡ whole →
     map (point_at steps (timed_of timed)) new ++ drop (place + 1) (timed_points (length steps + 1) (timed_of timed)) ≡ whole
@@ -80,7 +80,7 @@ events_more steps timed place l done new whole more all =
     ∙ (ap (λ ps. map name done ++ ps) (sym (owner_there (timed_owners (length steps + 1) (timed_of timed)) place within)) ∙ all)))
 
 -- in the end all events are there
-pub events_all : (steps : List PlainStep) (timed : List BoxTimed) (place : ℕ) → length timed ≤ place → (done : List PointOf) (whole : List (Option Point)) →
+pub events_all : (steps : List PlainBoxStep) (timed : List BoxTimed) (place : ℕ) → length timed ≤ place → (done : List PointOf) (whole : List (Option Point)) →
     map (point_at steps (timed_of timed)) done ++ drop place (timed_points (length steps + 1) (timed_of timed)) ≡ whole → map (point_at steps (timed_of timed)) done ≡ whole
 events_all steps timed place l done whole all =
     let owners = timed_owners (length steps + 1) (timed_of timed) in
@@ -90,7 +90,7 @@ events_all steps timed place l done whole all =
 -- ---- both
 
 -- the points of a box are those of its steps and then of its events
-pub points_of_both : (steps : List PlainStep) (timed : List PlainTimed) → map Some (points_of_owners (owners_of steps timed)) ≡ map Some (points_of_owners (step_owners 1 steps)) ++ map Some (points_of_owners (timed_owners (length steps + 1) timed))
+pub points_of_both : (steps : List PlainBoxStep) (timed : List PlainBoxTimed) → map Some (points_of_owners (owners_of steps timed)) ≡ map Some (points_of_owners (step_owners 1 steps)) ++ map Some (points_of_owners (timed_owners (length steps + 1) timed))
 points_of_both steps timed =
     ap (map Some) (points_append (step_owners 1 steps) (timed_owners (length steps + 1) timed)) ∙ map-append Some (points_of_owners (step_owners 1 steps)) (points_of_owners (timed_owners (length steps + 1) timed))
 

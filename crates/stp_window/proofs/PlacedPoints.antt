@@ -10,7 +10,7 @@ use Rattle.stp_happen.specs.declared.boxes.BoxStep.{BoxStep}
 use Rattle.stp_happen.specs.declared.boxes.BoxRun.{BoxRun}
 use Rattle.stp_happen.specs.declared.boxes.BoxTimed.{BoxTimed}
 use Rattle.stp_happen.specs.Boxes.{PlainOwner}
-use Rattle.stp_happen.specs.Owners.{PlainStep, PlainTimed, step_owner, timed_owners, number_after}
+use Rattle.stp_happen.specs.Owners.{PlainBoxStep, PlainBoxTimed, step_owner, timed_owners, number_after}
 use Rattle.stp_happen.specs.SoundBox.{IsBoxStep, IsBoxTimed}
 use Rattle.stp_happen.specs.StepViews.{step_of, steps_of, plain_timed, timed_of}
 use Rattle.stp_happen.proofs.OwnerLists.{in_timed}
@@ -40,10 +40,10 @@ timed_there (e ∷ es) number (suc k) = less k (length es) ∙ timed_there es (n
     less : (k n : ℕ) → nat_lt (suc k) (suc n) ≡ nat_lt k n
     less k n = grind (arith, nat_tests)
 
-pub is_timed_there : (steps : List PlainStep) (timed read : List BoxTimed) (point : PointOf) (place : ℕ) → point ≡ Timed place → read ≡ timed → nat_lt place (length read) ≡ is_some (point_at steps (timed_of timed) point)
+pub is_timed_there : (steps : List PlainBoxStep) (timed read : List BoxTimed) (point : PointOf) (place : ℕ) → point ≡ Timed place → read ≡ timed → nat_lt place (length read) ≡ is_some (point_at steps (timed_of timed) point)
 is_timed_there steps timed read point place is same = rw (is, same) (timed_there timed (length steps + 1) place)
 
-pub timed_within : (steps : List PlainStep) (timed read : List BoxTimed) (point : PointOf) (place : ℕ) → point ≡ Timed place → read ≡ timed → IsSome (point_at steps (timed_of timed) point) → place < length read
+pub timed_within : (steps : List PlainBoxStep) (timed read : List BoxTimed) (point : PointOf) (place : ℕ) → point ≡ Timed place → read ≡ timed → IsSome (point_at steps (timed_of timed) point) → place < length read
 timed_within steps timed read point place is same there = ltb-true place (length read) (is_timed_there steps timed read point place is same ∙ there)
 
 bounds_at : (timed : List BoxTimed) (number place : ℕ) (e : BoxTimed) → e ≡ get_or timed place e → IfSome (option_map end_point (slice_get (timed_owners number (timed_of timed)) place)) (λ p. (e.low ≡ p.low) × (e.high ≡ p.high))
@@ -51,7 +51,7 @@ bounds_at [] number place e h = tt
 bounds_at (x ∷ xs) number zero e h = (ap (λ (t : BoxTimed). t.low) h, ap (λ (t : BoxTimed). t.high) h)
 bounds_at (x ∷ xs) number (suc k) e h = bounds_at xs (number_after number (plain_timed x)) k e h
 
-pub timed_bounds : (steps : List PlainStep) (timed read : List BoxTimed) (point : PointOf) (place : ℕ) (e : BoxTimed) → point ≡ Timed place → read ≡ timed → e ≡ get_or read place e →
+pub timed_bounds : (steps : List PlainBoxStep) (timed read : List BoxTimed) (point : PointOf) (place : ℕ) (e : BoxTimed) → point ≡ Timed place → read ≡ timed → e ≡ get_or read place e →
     IfSome (point_at steps (timed_of timed) point) (λ p. (e.low ≡ p.low) × (e.high ≡ p.high))
 timed_bounds steps timed read point place e is same h = rw is (bounds_at timed (length steps + 1) place e (subst (λ (ts : List BoxTimed). e ≡ get_or ts place e) same h))
 
@@ -66,17 +66,17 @@ owner_at (x ∷ xs) zero o e = subst (Contains (x ∷ xs)) (some_same e) (here x
 owner_at (x ∷ xs) (suc n) o e = there x xs o (owner_at xs n o e)
 
 -- an event of a box has its low up to its high
-timed_goes_up : (boxed : BoxRun) (e : PlainTimed) → Contains (timed_of boxed.timed) e → e.low ≤ e.high
-timed_goes_up boxed e i = ∥∥₁_elim boxed.sound (Prim.hlevel props) (λ b. each_mapped plain_timed (λ (x : PlainTimed). x.low ≤ x.high) boxed.timed (λ x j. (each_of (IsBoxTimed boxed.grid (length boxed.initial)) boxed.timed b.timed_in_range x j).up) e i)
+timed_goes_up : (boxed : BoxRun) (e : PlainBoxTimed) → Contains (timed_of boxed.timed) e → e.low ≤ e.high
+timed_goes_up boxed e i = ∥∥₁_elim boxed.sound (Prim.hlevel props) (λ b. each_mapped plain_timed (λ (x : PlainBoxTimed). x.low ≤ x.high) boxed.timed (λ x j. (each_of (IsBoxTimed boxed.grid (length boxed.initial)) boxed.timed b.timed_in_range x j).up) e i)
 
 timed_owner_up : (boxed : BoxRun) (number : ℕ) (o : PlainOwner) → Contains (timed_owners number (timed_of boxed.timed)) o → o.low ≤ o.high
 timed_owner_up boxed number o i = let r = in_timed number (timed_of boxed.timed) o i in subst (λ (x : PlainOwner). x.low ≤ x.high) (sym r.is) (timed_goes_up boxed r.e r.member)
 
-numbered_member : (steps : List PlainStep) (number : ℕ) (s : PlainStep) → step_numbered steps number ≡ Some s → Contains steps s
+numbered_member : (steps : List PlainBoxStep) (number : ℕ) (s : PlainBoxStep) → step_numbered steps number ≡ Some s → Contains steps s
 numbered_member steps zero s e = absurd (cc)
 numbered_member steps (suc n) s e = at_place steps n s e
   where
-    at_place : (steps : List PlainStep) (n : ℕ) (s : PlainStep) → slice_get steps n ≡ Some s → Contains steps s
+    at_place : (steps : List PlainBoxStep) (n : ℕ) (s : PlainBoxStep) → slice_get steps n ≡ Some s → Contains steps s
     at_place [] n s e = absurd (cc)
     at_place (x ∷ xs) zero s e = subst (Contains (x ∷ xs)) (some_same e) (here x xs)
       where
@@ -85,23 +85,23 @@ numbered_member steps (suc n) s e = at_place steps n s e
     at_place (x ∷ xs) (suc n) s e = there x xs s (at_place xs n s e)
 
 -- a step of a box has its low up to its high
-step_goes_up : (boxed : BoxRun) (s : PlainStep) → Contains (steps_of boxed.steps) s → s.low ≤ s.high
-step_goes_up boxed s i = ∥∥₁_elim boxed.sound (Prim.hlevel props) (λ b. each_mapped step_of (λ (x : PlainStep). x.low ≤ x.high) boxed.steps (λ x j. (each_of (IsBoxStep boxed.grid (length boxed.initial)) boxed.steps b.steps_in_range x j).up) s i)
+step_goes_up : (boxed : BoxRun) (s : PlainBoxStep) → Contains (steps_of boxed.steps) s → s.low ≤ s.high
+step_goes_up boxed s i = ∥∥₁_elim boxed.sound (Prim.hlevel props) (λ b. each_mapped step_of (λ (x : PlainBoxStep). x.low ≤ x.high) boxed.steps (λ x j. (each_of (IsBoxStep boxed.grid (length boxed.initial)) boxed.steps b.steps_in_range x j).up) s i)
 
 -- a point of a step has its window's ends in order
 pub point_goes_up : (boxed : BoxRun) (point : PointOf) (p : Point) → point_at (steps_of boxed.steps) (timed_of boxed.timed) point ≡ Some p → p.low ≤ p.high
 point_goes_up boxed (First step) p e = first_up (step_numbered (steps_of boxed.steps) step.0) step.0 p e
   where
-    first_up : (found : Option PlainStep) (number : ℕ) (p : Point) → option_map (λ s. first_point (step_owner number s)) found ≡ Some p → p.low ≤ p.high
+    first_up : (found : Option PlainBoxStep) (number : ℕ) (p : Point) → option_map (λ s. first_point (step_owner number s)) found ≡ Some p → p.low ≤ p.high
     first_up None number p e = absurd (cc)
     first_up (Some s) number p e = let q : first_point (step_owner number s) ≡ p = cc in subst (λ (x : Point). x.low ≤ x.high) q (omega arith)
 point_goes_up boxed (Last step) p e = last_up (step_numbered (steps_of boxed.steps) step.0) step.0 p (λ s f. step_goes_up boxed s (numbered_member (steps_of boxed.steps) step.0 s f)) e
   where
-    with_last : (last : Option PlainEvent) (number : ℕ) (s : PlainStep) (p : Point) → s.low ≤ s.high → option_map (λ event. end_point (step_owner number s)) last ≡ Some p → p.low ≤ p.high
+    with_last : (last : Option PlainEvent) (number : ℕ) (s : PlainBoxStep) (p : Point) → s.low ≤ s.high → option_map (λ event. end_point (step_owner number s)) last ≡ Some p → p.low ≤ p.high
     with_last None number s p l e = absurd (cc)
     with_last (Some event) number s p l e = let q : end_point (step_owner number s) ≡ p = cc in subst (λ (x : Point). x.low ≤ x.high) q l
 
-    last_up : (found : Option PlainStep) (number : ℕ) (p : Point) → ((s : PlainStep) → found ≡ Some s → s.low ≤ s.high) → option_and_then (last_point number) found ≡ Some p → p.low ≤ p.high
+    last_up : (found : Option PlainBoxStep) (number : ℕ) (p : Point) → ((s : PlainBoxStep) → found ≡ Some s → s.low ≤ s.high) → option_and_then (last_point number) found ≡ Some p → p.low ≤ p.high
     last_up None number p up e = absurd (cc)
     last_up (Some s) number p up e = with_last s.last number s p (up s refl) e
 point_goes_up boxed (Timed place) p e = owner_up (slice_get owners place) p (λ o f. timed_owner_up boxed (length (steps_of boxed.steps) + 1) o (owner_at owners place o f)) e

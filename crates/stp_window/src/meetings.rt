@@ -3,7 +3,7 @@
 ghost use Rattle.std.specs.Prelude.{◌≡◌, ℕ, ◌+◌, ◌≤◌, ◌++◌, Some, List as Sequence, length, map, IfOk, MatchOption, OnOk};
 ghost use Rattle.stp_base.specs.declared.limits.TheConstants.{MAX_EVENTS, MAX_STEPS, MAX_TIMED};
 ghost use Rattle.stp_happen.specs.BoxViews.{plain_box};
-ghost use Rattle.stp_happen.specs.Owners.{PlainStep, PlainTimed, step_owner, step_owners, timed_owners};
+ghost use Rattle.stp_happen.specs.Owners.{PlainBoxStep, PlainBoxTimed, step_owner, step_owners, timed_owners};
 ghost use Rattle.stp_happen.specs.StepViews.{step_of, steps_of, timed_of};
 ghost use Rattle.stp_window.specs.Met.{IsMeeting, NoneMeeting};
 ghost use Rattle.stp_window.specs.OwnerWindows.{points_of_owner, points_of_owners};
@@ -22,7 +22,7 @@ fn push_of_step(
     number: StepId,
     step: &BoxStep<'_>,
 ) -> Result<(), Memory>
-    ensures { OnOk result ((steps : Sequence PlainStep) (timed : Sequence PlainTimed) → step_numbered steps number.0 ≡ Some (step_of step.now) →
+    ensures { OnOk result ((steps : Sequence PlainBoxStep) (timed : Sequence PlainBoxTimed) → step_numbered steps number.0 ≡ Some (step_of step.now) →
         map (point_at steps timed) points.new ≡ map (point_at steps timed) points.old ++ map Some (points_of_owner (step_owner number.0 (step_of step.now)))) }
 {
     points.push(PointOf::First(number))?;
@@ -35,7 +35,7 @@ fn push_of_step(
 /// Puts the points of these events of the environment at the end of a list.
 fn push_of_timed(points: &mut List<PointOf>, timed: &[BoxTimed<'_>]) -> Result<(), Memory>
     requires { length timed.now ≤ MAX_TIMED + MAX_EVENTS }
-    ensures { OnOk result ((steps : Sequence PlainStep) →
+    ensures { OnOk result ((steps : Sequence PlainBoxStep) →
         map (point_at steps (timed_of timed.now)) points.new ≡ map (point_at steps (timed_of timed.now)) points.old ++ map Some (points_of_owners (timed_owners (length steps + 1) (timed_of timed.now)))) }
 {
     for place in 0..timed.len() {
@@ -47,7 +47,7 @@ fn push_of_timed(points: &mut List<PointOf>, timed: &[BoxTimed<'_>]) -> Result<(
 /// Puts the points of these steps at the end of a list.
 fn push_of_steps(points: &mut List<PointOf>, steps: &[BoxStep<'_>]) -> Result<(), Memory>
     requires { length steps.now ≤ MAX_STEPS }
-    ensures { OnOk result ((timed : Sequence PlainTimed) →
+    ensures { OnOk result ((timed : Sequence PlainBoxTimed) →
         map (point_at (steps_of steps.now) timed) points.new ≡ map (point_at (steps_of steps.now) timed) points.old ++ map Some (points_of_owners (step_owners 1 (steps_of steps.now)))) }
 {
     let mut number = 0u32;
