@@ -1,0 +1,3 @@
+pub mod RenamedStates
+pub mod Renaming
+pub mod RenamedBoxes
