@@ -1,0 +1,12 @@
+pub mod Folding
+pub mod Moved
+pub mod MovedEvents
+pub mod Choosing
+pub mod KeptChoices
+pub mod Lasting
+pub mod StepTimes
+pub mod ChosenAtoms
+pub mod PlanTasks
+pub mod PlanBoxes
+pub mod NoRuns
+pub mod Premises

@@ -1,0 +1,2 @@
+pub mod PlansOf
+pub mod Premises
