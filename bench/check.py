@@ -190,7 +190,7 @@ def sums(size):
     return domain, "(define (problem y) (:domain sums) (:init (= (f) 1)) (:goal (and)))\n", ""
 
 
-def seconds(files, runs):
+def seconds(files, runs, command, options):
     with tempfile.TemporaryDirectory() as folder:
         names = []
         for name, text in zip(["d", "p", "l"], files):
@@ -201,17 +201,17 @@ def seconds(files, runs):
         least = None
         for _ in range(runs):
             before = resource.getrusage(resource.RUSAGE_CHILDREN).ru_utime
-            done = subprocess.run([PROGRAM, "check", *names], capture_output=True, text=True)
+            done = subprocess.run([PROGRAM, command, *names, *options], capture_output=True, text=True)
             spent = resource.getrusage(resource.RUSAGE_CHILDREN).ru_utime - before
             least = spent if least is None else min(least, spent)
         return least, done.returncode, done.stdout.split("\n")[0]
 
 
-def table(title, make, sizes, runs):
+def table(title, make, sizes, runs, command="check", options=()):
     print(title)
     before = None
     for size in sizes:
-        least, status, first = seconds(make(size), runs)
+        least, status, first = seconds(make(size), runs, command, options)
         factor = f"{least / before:5.2f}" if before else "     "
         print(f"  {size:>9}  {least:8.3f} s  {factor}  [{status}] {first}")
         before = least

@@ -24,20 +24,32 @@ use Rattle.stp_cli.specs.declared.status.Status.{Status}
 use Rattle.stp_cli.specs.declared.status.Status.TheVariants as statuses
 use Rattle.stp_cli.specs.declared.texts.Texts.{Texts}
 use Rattle.stp_cli.specs.declared.words.Work.{Work}
-use Rattle.stp_cli.specs.declared.words.Work.TheVariants.{Check, Replay}
+use Rattle.stp_cli.specs.declared.words.Work.TheVariants.{Check, Replay, Plan}
 use Rattle.stp_cli.specs.Calls.{Files, StoreCall, SinkCall, steady_call, silent_call}
 use Rattle.stp_cli.specs.Words.{Named, Command, command_of, files_of}
 use Rattle.stp_cli.specs.Texts.{no_texts, with_text}
 use Rattle.stp_base.specs.Results.{◌>>=◌}
-use Rattle.stp_cli.specs.Refusals.{refusal, refused_at, refused, IsOrRefused}
-use Rattle.stp_cli.specs.Case.{PlainCase, case_of, times_of, grid_of, box_of}
+use Rattle.stp_cli.specs.Refusals.{refusal, refused, ground_fault, IsOrRefused}
+use Rattle.stp_cli.specs.Case.{PlainCase, case_of, problem_of_texts, task_in, times_of, grid_of, box_of}
 use Rattle.stp_cli.specs.Loading.{IsStopped, AreLoaded}
 use Rattle.stp_cli.specs.Verdict.{IsStrongVerdict, IsWeakVerdict, IsVerdict}
 use Rattle.stp_cli.specs.Replay.{durations_of, IsReplay, IsReplayedCase}
 use Rattle.stp_cli.specs.Replies.{status_of}
-use Rattle.stp_cli.specs.Answers.{IsChecked, IsRight}
+use Rattle.stp_cli.specs.Answers.{IsChecked, IsPlanned, IsPlannedIn, IsRight}
+use Rattle.stp_cli.specs.Planned.{IsPlannedTask}
+use Rattle.stp_task.specs.CertificateViews.{pair_of}
+use Rattle.stp_task.specs.Certificates.{IsCertificate, IsLeastClosed, Pair, possible}
+use Rattle.stp_task.specs.Tasks.{PlainTask}
+use Rattle.stp_schema.specs.declared.problem.Problem.{Problem}
+use Rattle.stp_schema.specs.Views.{PlainProblem, problem_of}
+use Rattle.stp_kept.specs.KeptTasks.{task_or_fault}
+use Rattle.stp_unreachable.specs.PlansOf.{HasPlainSimpleActions, HasProperEvents}
+use Rattle.stp_unreachable.proofs.NoRuns.{no_run_of_the_plan}
+use Rattle.stp_unreachable.proofs.Premises.{events_are_proper}
+use Rattle.stp_cli.proofs.ReadProblems.{bound, no_fault, simple_actions_are_plain}
+use Rattle.stp_relax.proofs.Growing.{possible_grows}
 use Rattle.stp_cli.specs.Outcome.{IsAllowedTo, IsAllowed, IsOutcome}
-use Rattle.stp_cli.specs.Headline.{texts_in, case_in, refusal_on, refusal_in, SaysStrong, IsHeadline, AreSteady, IsOverFiles, IsCheck, IsHeadlineOf, IsComplete, ChecksMeetTheHeadline, StrongIsExact, ChecksAreOfTexts, ChecksHaveOneText, RefusalsAreExact, RightAnswersAreNoFaults, SteadyNamesAreRead}
+use Rattle.stp_cli.specs.Headline.{texts_in, case_in, refusal_on, refusal_in, SaysStrong, IsHeadline, AreSteady, IsOverFiles, IsCheck, IsHeadlineOf, IsHopeless, IsPlanAnswer, IsPlanHeadline, IsPlanHeadlineOf, IsComplete, problem_in, ChecksMeetTheHeadline, PlansMeetTheHeadline, StrongIsExact, ChecksAreOfTexts, ChecksHaveOneText, RefusalsAreExact, RightAnswersAreNoFaults, SteadyNamesAreRead}
 
 -- ---- faults of the outside
 
@@ -58,9 +70,15 @@ free_run run (Some f) = λ e. cc
 free_replay : (list : List ℕ) (c : PlainCase) (answer : Answer) → IsReplayedCase list c answer → status_of answer ≢ statuses.OutsideFault
 free_replay list c = fault_free (IsReplay c) (λ ds answer v e. free_run v.shown.run v.shown.fault (sym (ap status_of v.shown.answered) ∙ e)) (durations_of (times_of c) list)
 
+free_task : (p : PlainProblem) (t : PlainTask) (answer : Answer) → IsPlannedTask p t answer → status_of answer ≢ statuses.OutsideFault
+free_task p t answer (inl v) = λ e. let both : statuses.Done ≡ statuses.OutsideFault = sym (ap status_of v.answered) ∙ e in cc
+free_task p t answer (inr (inl v)) = λ e. let both : statuses.No ≡ statuses.OutsideFault = sym (ap status_of v.answered) ∙ e in cc
+free_task p t answer (inr (inr v)) = λ e. let both : statuses.BudgetSpent ≡ statuses.OutsideFault = sym (ap status_of v.answered) ∙ e in cc
+
 pub right_answers_are_no_faults : RightAnswersAreNoFaults
 right_answers_are_no_faults Check list texts answer right = fault_free (λ c. IsVerdict (grid_of c) (box_of c)) (λ c. free_verdict (grid_of c) (box_of c)) (case_of texts.domain texts.problem texts.plan) answer right
 right_answers_are_no_faults Replay list texts answer right = fault_free (IsReplayedCase list) (free_replay list) (case_of texts.domain texts.problem texts.plan) answer right
+right_answers_are_no_faults Plan list texts answer right = fault_free IsPlannedIn (λ p. fault_free (IsPlannedTask p) (free_task p) (task_in p)) (problem_of_texts texts.domain texts.problem) answer right
 
 stopped_steadily : (reads : StoreCall) (fs : List Named) (answer : Answer) → AreSteady reads fs → IsStopped reads fs answer → status_of answer ≢ statuses.OutsideFault
 stopped_steadily reads [] answer all h = absurd h
@@ -160,9 +178,20 @@ module _ (list : List ℕ) where
   exact_replay (Err (cases.Refused s)) answer is r = exact_refusal s answer is r
   exact_replay (Ok c) answer is r = exact_or (IsReplay c) (λ ds a s v e. let both = sym v.shown.answered ∙ e in cc) (durations_of (times_of c) list) answer is r
 
+no_task : (p : PlainProblem) (t : PlainTask) (answer : Answer) (r : Refusal) → IsPlannedTask p t answer → answer ≡ refused r → ⊥
+no_task p t answer r (inl v) e = let both = sym v.answered ∙ e in cc
+no_task p t answer r (inr (inl v)) e = let both = sym v.answered ∙ e in cc
+no_task p t answer r (inr (inr v)) e = let both = sym v.answered ∙ e in cc
+
+exact_plan : (read : Result PlainProblem CaseFault) (answer : Answer) → IsOrRefused IsPlannedIn read answer → (r : Refusal) → (answer ≡ refused r) ↔ (result_err (read >>= task_in) ≡ Some (cases.Refused r))
+exact_plan (Err cases.Memory) answer is r = absurd is
+exact_plan (Err (cases.Refused s)) answer is r = exact_refusal s answer is r
+exact_plan (Ok p) answer is r = exact_or (IsPlannedTask p) (no_task p) (task_in p) answer is r
+
 exact_of : (work : Work) (list : List ℕ) (texts : Texts) (answer : Answer) → IsRight work list texts answer → (r : Refusal) → (answer ≡ refused r) ↔ (refusal_on work list texts ≡ Some (cases.Refused r))
 exact_of Check list texts answer right r = exact_or (λ c. IsVerdict (grid_of c) (box_of c)) (λ c. no_verdict (grid_of c) (box_of c)) (case_of texts.domain texts.problem texts.plan) answer right r
 exact_of Replay list texts answer right r = exact_replay list (case_of texts.domain texts.problem texts.plan) answer right r
+exact_of Plan list texts answer right r = exact_plan (problem_of_texts texts.domain texts.problem) answer right r
 
 exact_in : (work : Work) (list : List ℕ) (read : Result Texts CaseFault) (answer : Answer) → IsOrRefused (IsRight work list) read answer → (r : Refusal) → (answer ≡ refused r) ↔ (refusal_in work list read ≡ Some (cases.Refused r))
 exact_in work list (Err cases.Memory) answer is r = absurd is
@@ -259,6 +288,94 @@ complete_outcome reads writes words status (inr answered) c is all whole e =
     elim answered.left [
       | inl written ↦ steady_names_are_read reads c answered.answer all allowed (sym written.ended ∙ e)
       | inr broken ↦ whole broken.counted
+    ]
+
+-- ---- the headline of plans
+
+module _ (p : PlainProblem) (t : PlainTask) where
+  -- where the goal is possible in one least closed pair, it is in each
+  possible_in_each : (one other : Pair) → IsLeastClosed t one → IsLeastClosed t other → possible one t.goal ≡ true → possible other t.goal ≡ true
+  possible_in_each one other v w h = possible_grows one other (v.least other w.closed) t.goal h
+
+  -- where a certificate is given for the task of a problem in an arena, no run of a plan executes
+  hopeless_by : (problem : Problem) → problem_of problem ≡ p → (pair : Pair) → HasPlainSimpleActions p → task_or_fault p ≡ Ok t → IsCertificate t pair → IsHopeless p
+  hopeless_by problem same pair simple grounded certificate =
+      no_run_of_the_plan p t pair (record { simple = simple; grounded = grounded; certificate = certificate })
+      (subst HasProperEvents same (events_are_proper problem))
+
+  plan_answer : HasPlainSimpleActions p → task_or_fault p ≡ Ok t → (answer : Answer) → IsPlannedTask p t answer → IsPlanAnswer p t answer
+  plan_answer simple grounded answer (inl v) = record {
+    empty = (λ e. v.strong, λ strong. v.answered);
+    unreachable = (λ says. let both = sym v.answered ∙ says.answered in absurd (cc), λ (pair, least, impossible). let both : true ≡ false = sym (v.may_hold pair least.closed) ∙ impossible in absurd (cc));
+    certified = λ says. let both = sym v.answered ∙ says.answered in absurd (cc);
+    hopeless = λ says. let both = sym v.answered ∙ says.answered in absurd (cc);
+    spent = (λ e. let both = sym v.answered ∙ e in absurd (cc), λ (weak, h). absurd (weak v.strong));
+  }
+  plan_answer simple grounded answer (inr (inl v)) = record {
+    empty = (λ e. let both = sym v.answered ∙ e in absurd (cc), λ strong. absurd (v.weak strong));
+    unreachable = (λ says. (pair_of v.certificate.now, v.least, v.impossible), λ h. record { problem = v.problem; task = v.task; certificate = v.certificate; answered = v.answered });
+    certified = λ says. v;
+    hopeless = λ says. hopeless_by v.problem.now v.of_problem (pair_of v.certificate.now) simple grounded (record { closed = v.least.closed; impossible = v.impossible });
+    spent = (
+      λ e. let both = sym v.answered ∙ e in absurd (cc),
+      λ (weak, (pair, least, may_hold)). let both : true ≡ false = sym (possible_in_each pair (pair_of v.certificate.now) least v.least may_hold) ∙ v.impossible in absurd (cc),
+    );
+  }
+  plan_answer simple grounded answer (inr (inr v)) = record {
+    empty = (λ e. let both = sym v.answered ∙ e in absurd (cc), λ strong. absurd (v.weak strong));
+    unreachable = (
+      λ says. let both = sym v.answered ∙ says.answered in absurd (cc),
+      λ (pair, least, impossible). let both : true ≡ false = sym (possible_in_each (pair_of v.certificate) pair v.least least v.may_hold) ∙ impossible in absurd (cc),
+    );
+    certified = λ says. let both = sym v.answered ∙ says.answered in absurd (cc);
+    hopeless = λ says. let both = sym v.answered ∙ says.answered in absurd (cc);
+    spent = (λ e. (v.weak, (pair_of v.certificate, v.least, v.may_hold)), λ h. v.answered);
+  }
+
+plan_headline_on : (read : Result PlainProblem CaseFault) → ((p : PlainProblem) → read ≡ Ok p → HasPlainSimpleActions p) → (answer : Answer) → IsOrRefused IsPlannedIn read answer → IsPlanHeadline read answer
+plan_headline_on (Err cases.Memory) simple answer is = absurd is
+plan_headline_on (Err (cases.Refused r)) simple answer is = record {
+  refusals = λ s e. let same : r ≡ s = cc in is ∙ ap refused same;
+  answers = λ p t e. absurd (cc);
+}
+plan_headline_on (Ok p) simple answer is = record {
+  refusals = λ r e. subst (λ x. IsOrRefused (IsPlannedTask p) x answer) e is;
+  answers = λ q t e f.
+      let same : p ≡ q = cc in
+      plan_answer q t (simple q e) (no_fault ground_fault (task_or_fault q) t f) answer (subst (λ x. IsOrRefused (IsPlannedTask q) x answer) f (subst (λ z. IsPlannedIn z answer) same is));
+}
+
+-- the problem of a command's files is one that was read
+simple_in : (file : Files) (c : Command) (p : PlainProblem) → problem_in file c ≡ Ok p → HasPlainSimpleActions p
+simple_in file c p e =
+    let (texts, loaded, read) = bound (texts_in file (files_of c) no_texts) (λ texts. problem_of_texts texts.domain texts.problem) p e in
+    simple_actions_are_plain texts.domain texts.problem p read
+
+planned_texts : (read : Result Texts CaseFault) (answer : Answer) → IsOrRefused IsPlanned read answer → IsOrRefused IsPlannedIn (read >>= (λ texts. problem_of_texts texts.domain texts.problem)) answer
+planned_texts (Err cases.Memory) answer is = is
+planned_texts (Err (cases.Refused r)) answer is = is
+planned_texts (Ok texts) answer is = is
+
+planned_in : (file : Files) (c : Command) (answer : Answer) → c.work ≡ Plan → IsOrRefused (IsRight c.work c.list) (texts_in file (files_of c) no_texts) answer → IsOrRefused IsPlannedIn (problem_in file c) answer
+planned_in file c answer work right =
+    planned_texts (texts_in file (files_of c) no_texts) answer
+    (subst (λ w. IsOrRefused (IsRight w c.list) (texts_in file (files_of c) no_texts) answer) work right)
+
+pub plans_meet_the_headline : PlansMeetTheHeadline
+plans_meet_the_headline reads file c answer work over allowed = plan_headline_on (problem_in file c) (simple_in file c) answer (planned_in file c answer work (over_answer reads file c answer over allowed))
+
+-- an answer that is no want of memory and no fault of the outside was written whole, and is the one of the headline
+pub plan_headline_of_outcome : (reads : StoreCall) (writes : SinkCall) (words : List (List ℕ)) (status : Status) → IsOutcome reads writes words status → IsPlanHeadlineOf reads writes words status
+plan_headline_of_outcome reads writes words status (inl want) file c is work told remembered inside = absurd (remembered want.ended)
+plan_headline_of_outcome reads writes words status (inr answered) file c is work told remembered inside =
+    let allowed : IsAllowedTo reads c answered.answer = rw is at answered.allowed in
+    elim answered.left [
+      | inl written ↦ (
+        answered.answer,
+        plan_headline_on (problem_in file c) (simple_in file c) answered.answer (planned_in file c answered.answer work (told_answer reads file c answered.answer told (λ e. inside (written.ended ∙ e)) allowed)),
+        written,
+      )
+      | inr broken ↦ absurd (inside broken.ended)
     ]
 
 -- ---- one text

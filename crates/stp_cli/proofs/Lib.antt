@@ -8,3 +8,5 @@ mod Headlines
 mod CommandRows
 mod NoWant
 mod OneAnswer
+mod EmptyPlans
+mod ReadProblems

@@ -1,17 +1,17 @@
 -- The definitions of readers never answer want of memory.
-use Rattle.std.proofs.Common.{◌≡◌, ◌≢◌, ℕ, ◌+◌, Bool, true, false, if◌then◌else◌, ◌==◌, nat_le, nat_lt, List, [], ◌∷◌, ◌++◌, length, Option, Some, None, Result, Ok, Err, IfErr, IfSome, option_map, refl, sym, subst, map, filter_map, slice_get}
+use Rattle.std.proofs.Common.{◌≢◌, ℕ, ◌+◌, Bool, true, false, if◌then◌else◌, ◌==◌, nat_lt, List, [], ◌∷◌, ◌++◌, length, Option, Some, None, Result, Ok, Err, IfErr, IfSome, option_map, refl, map, filter_map, slice_get}
 use Rattle.std.specs.Option.{ok_or}
 use Rattle.std.proofs.lemmas.List.Elements.{All-nil, All-cons, All-head, All-append}
 use Rattle.std.specs.List.{All}
 use Rattle.stp_base.specs.Results.{◌>>=◌}
 use Rattle.stp_base.specs.declared.ids.StepId.{StepId}
-use Rattle.stp_base.specs.declared.limits.TheConstants.{MAX_STEPS}
+use Rattle.stp_base.specs.declared.limits.TheConstants.{MAX_ACTIONS, MAX_ACTION_NODES, MAX_ATOMS, MAX_BINDINGS, MAX_DURATION_GRID, MAX_STEPS}
 use Rattle.stp_text.specs.declared.fault.TextFault.{TextFault}
 use Rattle.stp_text.specs.declared.fault.TextFault.TheVariants as texts
 use Rattle.stp_text.specs.Tree.{Tree, Word, Node}
 use Rattle.stp_text.specs.Signs.{Sign, Opens, Closes, Spells, Strange, signs_of}
 use Rattle.stp_text.specs.Offences.{wrong, misplaced, open_after, offences, unclosed}
-use Rattle.stp_text.specs.Reading.{judged, read_on, only_list, whole, tree_of, places, outer_items}
+use Rattle.stp_text.specs.Reading.{judged, read_on, only_list, whole, tree_of, outer_items}
 use Rattle.stp_refusal.specs.declared.code.Code.{Code}
 use Rattle.stp_refusal.specs.declared.offence.Offence.{Offence}
 use Rattle.stp_refusal.specs.declared.phase.ReadFault.{ReadFault}
@@ -31,7 +31,15 @@ use Rattle.stp_ground.specs.declared.fault.InstanceFault.TheVariants as choices
 use Rattle.stp_tables.specs.Names.{number_of}
 use Rattle.stp_schema.specs.Rows.{thing_names}
 use Rattle.stp_schema.specs.Schemas.{PlainSchema}
+use Rattle.stp_schema.specs.Timed.{is_chosen}
 use Rattle.stp_task.specs.Durations.{PlainDuration}
+use Rattle.stp_task.specs.Tasks.{PlainTask}
+use Rattle.stp_kept.specs.declared.fault.GroundFault.TheVariants as grounds
+use Rattle.stp_kept.specs.Counts.{binding_count, node_count}
+use Rattle.stp_kept.specs.Instances.{kept}
+use Rattle.stp_kept.specs.KeptTasks as kepts
+use Rattle.stp_kept.specs.KeptTasks.{first_too_long, refusal_by, task_atoms, task_grid, task_of}
+use Rattle.std.specs.List.{list_any}
 use Rattle.stp_instance.specs.Timings.{duration_of}
 use Rattle.stp_ground.specs.Problems.{below}
 use Rattle.stp_ground.specs.Chosen.{chosen_under, named, fitting, argument, arguments, bound, chosen_by}
@@ -46,10 +54,10 @@ use Rattle.stp_exec.specs.Placed.{placed_step, placed_from}
 use Rattle.stp_exec.specs.Boxed.{too_large, beyond_limits, placed_or_fault}
 use Rattle.stp_report.specs.declared.answer.FileName.{FileName}
 use Rattle.stp_cli.specs.declared.refusal.CaseFault.TheVariants as cases
-use Rattle.stp_cli.specs.Refusals.{text_fault, read_fault, plan_fault, exec_fault, or_fault}
+use Rattle.stp_cli.specs.Refusals.{text_fault, read_fault, plan_fault, exec_fault, ground_fault, or_fault}
 use Rattle.stp_cli.specs.Case.{problem_of_texts, steps_of, case_of}
-use Rattle.stp_cli.specs.Replay.{list_read, list_fits, durations_of}
-use Rattle.stp_cli.specs.Headline.{NoCaseIsWantOfMemory, NoListIsWantOfMemory}
+use Rattle.stp_cli.specs.Replay.{list_read, list_fits}
+use Rattle.stp_cli.specs.Headline.{NoCaseIsWantOfMemory, NoListIsWantOfMemory, NoTaskIsWantOfMemory}
 
 abbrev Never : {A F : Type 0} → F → Result A F → Type 0
 Never want r = IfErr r (λ fault. fault ≢ want)
@@ -286,3 +294,21 @@ pub no_list_is_want : NoListIsWantOfMemory
 no_list_is_want times list =
     never_then cases.Memory (list_read (durations_in list)) _ (never_list (durations_in list))
     (λ durations. never_fits (judge_list times durations) durations)
+
+-- ---- tasks
+
+never_task : (a b c d e : Bool) (o : Option ℕ) (f : Bool) (t : PlainTask)
+    → Never cases.Memory (or_fault ground_fault (kepts.unless_refused (if a then Some grounds.UncontrollableEvent else if b then Some grounds.TooManyBindings else if c then Some grounds.TooManyActions else if d then Some grounds.TooManyNodes else if e then Some grounds.TooManyAtoms else refusal_by o f) t))
+never_task true b c d e o f t = λ e. cc
+never_task false true c d e o f t = λ e. cc
+never_task false false true d e o f t = λ e. cc
+never_task false false false true e o f t = λ e. cc
+never_task false false false false true o f t = λ e. cc
+never_task false false false false false (Some n) f t = λ e. cc
+never_task false false false false false None true t = λ e. cc
+never_task false false false false false None false t = tt
+
+pub no_task_is_want : NoTaskIsWantOfMemory
+no_task_is_want p =
+    never_task (list_any is_chosen p.timed) (nat_lt MAX_BINDINGS (binding_count p)) (nat_lt MAX_ACTIONS (length (kept p))) (nat_lt MAX_ACTION_NODES (node_count p)) (nat_lt MAX_ATOMS (length (task_atoms p)))
+    (first_too_long (kept p)) (nat_lt MAX_DURATION_GRID (task_grid p)) (task_of p)

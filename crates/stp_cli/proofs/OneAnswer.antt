@@ -1,9 +1,19 @@
 -- Answers that are right on one command's texts are printed alike.
-use Rattle.std.proofs.Common.{◌≡◌, ℕ, zero, suc, ◌*◌, ◌/◌, ◌<◌, ◌≤◌, List, map, Option, Some, None, Result, Ok, Err, Bor, refl, sym, ap, subst, ◌∙◌, arith}
+use Rattle.std.proofs.Common.{◌≡◌, ℕ, Bool, true, false, inl, inr, zero, suc, ◌*◌, ◌/◌, ◌<◌, ◌≤◌, List, map, Option, Some, None, Result, Ok, Err, Bor, refl, sym, ap, subst, ◌∙◌, arith}
 use Rattle.std.proofs.Math.Logic.{∥∥₁_elim}
 use Rattle.std.proofs.Math.Nat.{mul-div_cancel_left}
 use Rattle.std.proofs.Props.{props}
+use Rattle.stp_base.specs.declared.ids.AtomId.{AtomId}
+use Rattle.stp_cond.specs.Atoms.{has, set_of}
+use Rattle.stp_cond.specs.Views.{atoms_of}
+use Rattle.stp_cond.proofs.Rising.{same_sets}
 use Rattle.stp_frac.specs.Fractions.{Fraction}
+use Rattle.stp_schema.specs.Views.{PlainProblem, problem_of}
+use Rattle.stp_task.specs.CertificateViews.{pair_of}
+use Rattle.stp_task.specs.Certificates.{IsLeastClosed, Pair, possible}
+use Rattle.stp_task.specs.Tasks.{PlainTask}
+use Rattle.stp_relax.proofs.Growing.{possible_grows}
+use Rattle.stp_report.specs.NoPlan.{unreachable_text}
 use Rattle.stp_happen.specs.Boxes.{PlainBox, run_under, finer_box}
 use Rattle.stp_happen.specs.Plain.{PlainRun}
 use Rattle.stp_happen.specs.declared.fault.Fault.{Fault}
@@ -18,9 +28,11 @@ use Rattle.stp_report.specs.Texts.{text_of}
 use Rattle.stp_report.proofs.OneText.{replays_have_one_text}
 use Rattle.stp_cli.specs.declared.refusal.CaseFault.{CaseFault}
 use Rattle.stp_cli.specs.declared.refusal.CaseFault.TheVariants as faults
-use Rattle.stp_cli.specs.declared.words.Work.TheVariants.{Check, Replay}
+use Rattle.stp_cli.specs.declared.words.Work.TheVariants.{Check, Replay, Plan}
 use Rattle.stp_cli.specs.Refusals.{refused, IsOrRefused}
-use Rattle.stp_cli.specs.Case.{PlainCase, case_of, times_of, grid_of, box_of}
+use Rattle.stp_cli.specs.Case.{PlainCase, case_of, problem_of_texts, task_in, times_of, grid_of, box_of}
+use Rattle.stp_cli.specs.Answers.{IsPlannedIn}
+use Rattle.stp_cli.specs.Planned.{IsPlannedTask, IsUnreachable}
 use Rattle.stp_cli.specs.Replay.{IsJudgedBy, IsRunWith, IsReplay, IsReplayedCase, durations_of}
 use Rattle.stp_cli.specs.Replies.{status_of}
 use Rattle.stp_cli.specs.Headline.{RightAnswersHaveOneText}
@@ -68,6 +80,50 @@ one_replay c ds one other v w =
     let same : v.factor ≡ w.factor = one_factor (grid_of c) v.factor w.factor grid v.finer w.finer low in
     one_run grid (finer_box w.factor (box_of c)) (map (count_of grid) ds) one other (subst (λ k. IsRunWith grid (finer_box k (box_of c)) (map (count_of grid) ds) one) same v.shown) w.shown
 
+-- ---- certificates
+
+same_test : (b c : Bool) → (b ≡ true → c ≡ true) → (c ≡ true → b ≡ true) → b ≡ c
+same_test true c h k = sym (h refl)
+same_test false true h k = k refl
+same_test false false h k = refl
+
+same_atoms : (one other : List AtomId) → set_of (atoms_of one) ≡ atoms_of one → set_of (atoms_of other) ≡ atoms_of other → ((a : ℕ) → has (atoms_of one) a ≡ has (atoms_of other) a) → atoms_of one ≡ atoms_of other
+same_atoms one other e f same = sym e ∙ same_sets (atoms_of one) (atoms_of other) same ∙ f
+
+one_unreachable : (p : PlainProblem) (t : PlainTask) (one other : Answer) → IsUnreachable p t one → IsUnreachable p t other → AreAlike one other
+one_unreachable p t one other v w =
+    let c = v.certificate.now in
+    let d = w.certificate.now in
+    let there = v.least.least (pair_of d) w.least.closed in
+    let back = w.least.least (pair_of c) v.least.closed in
+    let may : atoms_of c.may ≡ atoms_of d.may = same_atoms c.may d.may c.may_once d.may_once (λ a. same_test (has (atoms_of c.may) a) (has (atoms_of d.may) a) (there.may a) (back.may a)) in
+    let always : atoms_of c.always ≡ atoms_of d.always = same_atoms c.always d.always c.always_once d.always_once (λ a. same_test (has (atoms_of c.always) a) (has (atoms_of d.always) a) (back.always a) (there.always a)) in
+    let problem : problem_of v.problem.now ≡ problem_of w.problem.now = v.of_problem ∙ sym w.of_problem in
+    let atoms : v.task.now.atoms ≡ w.task.now.atoms = ap (λ (x : PlainTask). x.atoms) (v.of_task ∙ sym w.of_task) in (
+      ap text_of v.answered
+          ∙ ap (λ x. unreachable_text x v.task.now.atoms (atoms_of c.may) (atoms_of c.always)) problem
+          ∙ ap (λ x. unreachable_text (problem_of w.problem.now) x (atoms_of c.may) (atoms_of c.always)) atoms
+          ∙ ap (λ x. unreachable_text (problem_of w.problem.now) w.task.now.atoms x (atoms_of c.always)) may
+          ∙ ap (λ x. unreachable_text (problem_of w.problem.now) w.task.now.atoms (atoms_of d.may) x) always
+          ∙ sym (ap text_of w.answered),
+      ap status_of v.answered ∙ sym (ap status_of w.answered),
+    )
+
+-- a goal that is impossible in one least closed pair may not hold in another
+never_both : (t : PlainTask) (one other : Pair) → IsLeastClosed t one → IsLeastClosed t other → possible one t.goal ≡ false → possible other t.goal ≡ true → ⊥
+never_both t one other v w impossible may_hold = let both : false ≡ true = sym impossible ∙ possible_grows other one (w.least one v.closed) t.goal may_hold in cc
+
+one_planned : (p : PlainProblem) (t : PlainTask) (one other : Answer) → IsPlannedTask p t one → IsPlannedTask p t other → AreAlike one other
+one_planned p t one other (inl v) (inl w) = alike one other answers.EmptyPlan v.answered w.answered
+one_planned p t one other (inl v) (inr (inl w)) = absurd (w.weak v.strong)
+one_planned p t one other (inl v) (inr (inr w)) = absurd (w.weak v.strong)
+one_planned p t one other (inr (inl v)) (inl w) = absurd (v.weak w.strong)
+one_planned p t one other (inr (inl v)) (inr (inl w)) = one_unreachable p t one other v w
+one_planned p t one other (inr (inl v)) (inr (inr w)) = absurd (never_both t (pair_of v.certificate.now) (pair_of w.certificate) v.least w.least v.impossible w.may_hold)
+one_planned p t one other (inr (inr v)) (inl w) = absurd (v.weak w.strong)
+one_planned p t one other (inr (inr v)) (inr (inl w)) = absurd (never_both t (pair_of w.certificate.now) (pair_of v.certificate) w.least v.least w.impossible v.may_hold)
+one_planned p t one other (inr (inr v)) (inr (inr w)) = alike one other answers.BudgetSpent v.answered w.answered
+
 -- ---- answers
 
 alike_or : {A : Type 0} (right : A → Answer → Type 0) → ((a : A) (one other : Answer) → right a one → right a other → AreAlike one other) → (read : Result A CaseFault) (one other : Answer)
@@ -82,3 +138,4 @@ one_replayed list c = alike_or (IsReplay c) (one_replay c) (durations_of (times_
 pub right_answers_have_one_text : RightAnswersHaveOneText
 right_answers_have_one_text Check list texts one other v w = one_answer (case_of texts.domain texts.problem texts.plan) one other v w
 right_answers_have_one_text Replay list texts one other v w = alike_or (IsReplayedCase list) (one_replayed list) (case_of texts.domain texts.problem texts.plan) one other v w
+right_answers_have_one_text Plan list texts one other v w = alike_or IsPlannedIn (λ p. alike_or (IsPlannedTask p) (one_planned p) (task_in p)) (problem_of_texts texts.domain texts.problem) one other v w

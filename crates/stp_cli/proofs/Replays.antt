@@ -1,18 +1,16 @@
 -- Runs under durations that fit a case.
-use Rattle.std.proofs.Common.{◌≡◌, ℕ, zero, suc, true, ◌+◌, ◌*◌, ◌/◌, ◌<◌, ◌≤◌, List, map, length, All, Option, Some, None, Result, Ok, Err, Bor, refl, sym, ap, subst, ◌∙◌, arith, mul_comm}
+use Rattle.std.proofs.Common.{◌≡◌, ℕ, zero, suc, ◌*◌, ◌/◌, ◌<◌, List, map, All, Option, Some, None, Ok, Bor, refl, sym, ap, subst, ◌∙◌, arith, mul_comm}
 use Rattle.std.specs.Prelude.{◌↔◌, IsNone, IfSome, MatchOption}
 use Prim.Native.Nat.{◌∣◌}
 use Rattle.std.proofs.Math.Nat.{div-mul_cancel, dvd_refl}
 use Rattle.std.proofs.lemmas.List.Elements.{All-map}
-use Rattle.stp_frac.specs.Divisors.{divides}
-use Rattle.stp_frac.specs.Fractions.{Fraction, value_of}
+use Rattle.stp_frac.specs.Fractions.{value_of}
 use Rattle.stp_frac.specs.declared.frac.Frac.{Frac}
 use Rattle.stp_frac.proofs.Divisors.{lcm_multiple_left, lcm_pos}
 use Rattle.stp_happen.specs.Plain.{PlainRun, Executes}
 use Rattle.stp_happen.specs.Faults.{IsFirstFault}
 use Rattle.stp_happen.specs.Orders.{IsInSomeOrder}
 use Rattle.stp_happen.specs.Runs.{plain_run}
-use Rattle.stp_happen.specs.Owners.{finer_step}
 use Rattle.stp_happen.specs.BoxViews.{plain_box}
 use Rattle.stp_happen.specs.Boxes.{PlainBox, IsVector, run_under, finer_box}
 use Rattle.stp_happen.specs.declared.run.Run.{Run}

@@ -1,10 +1,10 @@
 -- Durations that fit steps are a vector of their box on a finer grid.
-use Rattle.std.proofs.Common.{◌≡◌, ℕ, ◌+◌, ◌*◌, ◌<◌, ◌≤◌, ◌==◌, nat_le, Bool, true, false, ◌&&◌, if◌then◌else◌, List, [], ◌∷◌, ◌++◌, length, map, flat_map, drop, Option, Some, None, refl, sym, ap, ap₂, ◌∙◌, subst, true≢false, arith, mul-pos}
-use Rattle.std.specs.Prelude.{All, slice_index}
+use Rattle.std.proofs.Common.{◌≡◌, ℕ, ◌+◌, ◌*◌, ◌<◌, ◌≤◌, ◌==◌, Bool, true, false, ◌&&◌, if◌then◌else◌, List, [], ◌∷◌, ◌++◌, length, map, flat_map, Option, Some, None, refl, sym, ap, ap₂, ◌∙◌, subst, true≢false, arith, mul-pos}
+use Rattle.std.specs.Prelude.{All}
 use Rattle.std.specs.List.{list_all}
 use Rattle.std.specs.Ordering.{is_le}
 use Rattle.std.proofs.lemmas.Bool.Decides.{nat_tests}
-use Rattle.std.proofs.lemmas.List.Elements.{All-head, All-tail, All-map}
+use Rattle.std.proofs.lemmas.List.Elements.{All-head, All-tail}
 use Rattle.std.proofs.Math.Nat.{dvd-mul_left_of_dvd}
 use Rattle.stp_frac.specs.Divisors.{divides}
 use Rattle.stp_frac.specs.Fractions.{Fraction, is_below_zero, is_less, is_at_most, zero}
@@ -16,8 +16,8 @@ use Rattle.stp_tables.specs.Atoms.{Atom}
 use Rattle.stp_ground.specs.Chosen.{PlainChosen}
 use Rattle.stp_ground.specs.Ground.{event_by}
 use Rattle.stp_exec.specs.Held.{PlainHeld, Instant, Fixed, Open, is_within, is_lawful_held}
-use Rattle.stp_exec.specs.Timed.{PlainTimedStep, PlainTimes, count_of, lies_on, event_lies_on, moments_of, held_denominators, is_lawful_timed}
-use Rattle.stp_exec.specs.Fitting.{open_bounds, held_bounds, step_bounds, event_bounds, outside_from, judge_list, grid_with, unless_outside, unless_fine}
+use Rattle.stp_exec.specs.Timed.{PlainTimedStep, PlainTimes, count_of, lies_on, event_lies_on, held_denominators, is_lawful_timed}
+use Rattle.stp_exec.specs.Fitting.{open_bounds, step_bounds, event_bounds, outside_from, judge_list, grid_with, unless_outside, unless_fine}
 use Rattle.stp_exec.proofs.Bounds.{Lies, HeldLies, above_on, at_most_count, bottom_pos, count_order, less_on, ends_ordered, first_lies, second_lies}
 use Rattle.stp_exec.proofs.EventMoments.{low_lies, high_lies, high_above}
 use Rattle.stp_exec.proofs.LeastGrids.{finer_grids_keep_moments, finer_grids_keep_events}

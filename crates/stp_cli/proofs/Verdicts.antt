@@ -1,5 +1,5 @@
 -- Verdicts on boxes, and the times that they print.
-use Rattle.std.proofs.Common.{◌≡◌, ℕ, ◌+◌, ◌*◌, ◌≤◌, ◌<◌, Bool, true, false, if◌then◌else◌, List, [], ◌∷◌, ◌++◌, length, map, drop, All, Some, None, not, filter, refl, sym, ap, subst, ◌∙◌, arith, true≢false}
+use Rattle.std.proofs.Common.{◌≡◌, ℕ, ◌+◌, ◌*◌, ◌≤◌, ◌<◌, Bool, true, false, if◌then◌else◌, List, [], ◌∷◌, ◌++◌, length, drop, All, not, filter, refl, sym, ap, subst, ◌∙◌, arith}
 use Rattle.std.specs.Prelude.{slice_index, cond, count_by}
 use Rattle.std.proofs.lemmas.List.{length-map}
 use Rattle.std.proofs.lemmas.List.Sums.{sum_by-append}
@@ -14,7 +14,7 @@ use Rattle.stp_happen.specs.Boxes.{PlainOwner, IsVector, rest_of}
 use Rattle.stp_happen.specs.Owners.{PlainBoxTimed, step_owner, step_owners, timed_owner, timed_owners, number_after}
 use Rattle.stp_happen.specs.StepViews.{step_of, steps_of, plain_timed, timed_of}
 use Rattle.stp_happen.specs.BoxViews.{plain_box}
-use Rattle.stp_report.specs.Bounds.{IsGrid, IsTime, IsFaultTime, AreWeakTimes}
+use Rattle.stp_report.specs.Bounds.{IsTime, IsFaultTime, AreWeakTimes}
 use Rattle.stp_cli.specs.Verdict.{is_step, is_uncertain_step, is_chosen_event, step_count, uncertain_count, event_count}
 
 abbrev EndsInTime : ℕ → PlainOwner → Type 0

@@ -4,6 +4,8 @@ use Rattle.stp_text.specs.Reading.{tree_of}
 use Rattle.stp_schema.specs.Views.{PlainProblem}
 use Rattle.stp_domain.specs.Reading.{domain_or_refusal}
 use Rattle.stp_problem.specs.Reading.{problem_or_refusal}
+use Rattle.stp_task.specs.Tasks.{PlainTask}
+use Rattle.stp_kept.specs.KeptTasks.{task_or_fault}
 use Rattle.stp_plan.specs.Plans.{plan_of}
 use Rattle.stp_happen.specs.Boxes.{PlainBox}
 use Rattle.stp_exec.specs.Timed.{PlainTimes}
@@ -13,7 +15,7 @@ use Rattle.stp_exec.specs.Plans.{grid_of_plan, box_of_plan}
 use Rattle.stp_exec.specs.Boxed.{placed_or_fault}
 use Rattle.stp_report.specs.declared.answer.FileName.TheVariants as files
 use Rattle.stp_base.specs.Results.{◌>>=◌}
-use Rattle.stp_cli.specs.Refusals.{or_fault, text_fault, read_fault, plan_fault, exec_fault}
+use Rattle.stp_cli.specs.Refusals.{or_fault, text_fault, read_fault, plan_fault, exec_fault, ground_fault}
 use Rattle.stp_cli.specs.declared.refusal.CaseFault.{CaseFault}
 
 pub record PlainCase : Type 0 where
@@ -43,6 +45,10 @@ case_of domain problem plan = do
   read ← problem_of_texts domain problem
   steps ← steps_of read plan
   Ok (case_with read steps)
+
+-- the task of a problem, or its first refusal
+abbrev pub task_in : PlainProblem → Result PlainTask CaseFault
+task_in problem = or_fault ground_fault (task_or_fault problem)
 
 -- when its steps are, and when the events of its problem come
 abbrev pub times_of : PlainCase → PlainTimes

@@ -1,10 +1,19 @@
 -- What the answers to commands come to, where the store tells its files and their names are steady.
-use Rattle.std.specs.Prelude.{◌≡◌, ◌≢◌, ℕ, ◌↔◌, true, ◌⊎◌, nat_lt, if◌then◌else◌, List, [], ◌∷◌, length, All, Option, Some, unwrap_or, Result, Ok, Err, IfErr}
+use Rattle.std.specs.Prelude.{◌≡◌, ◌≢◌, ℕ, ◌↔◌, true, false, ◌⊎◌, nat_lt, if◌then◌else◌, List, [], ◌∷◌, length, All, Option, Some, unwrap_or, Result, Ok, Err, IfErr}
 use Rattle.std.specs.Result.{result_err}
+use Rattle.std.specs.Borrow.{Bor}
 use Rattle.stp_base.specs.declared.limits.TheConstants.{MAX_FILE_BYTES}
 use Rattle.stp_io.specs.Store.{HasRisen}
 use Rattle.stp_refusal.specs.declared.code.Code.TheVariants.{F01}
-use Rattle.stp_exec.specs.Plans.{IsStrongPlan}
+use Rattle.stp_schema.specs.declared.problem.Problem.{Problem}
+use Rattle.stp_schema.specs.Views.{PlainProblem}
+use Rattle.stp_task.specs.declared.certificate.Certificate.{Certificate}
+use Rattle.stp_task.specs.declared.task.Task.{Task}
+use Rattle.stp_task.specs.Certificates.{IsLeastClosed, Pair, possible}
+use Rattle.stp_task.specs.Tasks.{PlainTask}
+use Rattle.stp_exec.specs.Placed.{PlainPlaced}
+use Rattle.stp_exec.specs.Plans.{IsPlan, IsStrongPlan, box_of_plan}
+use Rattle.stp_unreachable.specs.PlansOf.{NeverExecutes}
 use Rattle.stp_exec.specs.Timed.{PlainTimes}
 use Rattle.stp_report.specs.declared.answer.Answer.{Answer}
 use Rattle.stp_report.specs.declared.answer.Answer.TheVariants as answers
@@ -16,15 +25,16 @@ use Rattle.stp_cli.specs.declared.status.Status.{Status}
 use Rattle.stp_cli.specs.declared.status.Status.TheVariants as statuses
 use Rattle.stp_cli.specs.declared.texts.Texts.{Texts}
 use Rattle.stp_cli.specs.declared.words.Work.{Work}
-use Rattle.stp_cli.specs.declared.words.Work.TheVariants.{Check, Replay}
+use Rattle.stp_cli.specs.declared.words.Work.TheVariants.{Check, Replay, Plan}
 use Rattle.stp_cli.specs.Calls.{Files, StoreCall, SinkCall}
 use Rattle.stp_cli.specs.Words.{Named, Command, command_of, files_of}
 use Rattle.stp_cli.specs.Texts.{no_texts, with_text}
 use Rattle.stp_base.specs.Results.{◌>>=◌}
 use Rattle.stp_cli.specs.Refusals.{refused_at, refused}
-use Rattle.stp_cli.specs.Case.{PlainCase, case_of, times_of, grid_of, box_of}
+use Rattle.stp_cli.specs.Case.{PlainCase, case_of, problem_of_texts, task_in, times_of, grid_of, box_of}
 use Rattle.stp_cli.specs.Loading.{IsStopped, AreLoaded}
 use Rattle.stp_cli.specs.Verdict.{IsStrongVerdict, IsWeakVerdict}
+use Rattle.stp_cli.specs.Planned.{IsUnreachable}
 use Rattle.stp_cli.specs.Replay.{durations_of}
 use Rattle.stp_cli.specs.Replies.{status_of}
 use Rattle.stp_cli.specs.Answers.{IsRight}
@@ -48,6 +58,12 @@ case_in file c = do
   texts ← texts_in file (files_of c) no_texts
   case_of texts.domain texts.problem texts.plan
 
+-- the problem that the files of a command make, or their first refusal
+abbrev pub problem_in : Files → Command → Result PlainProblem CaseFault
+problem_in file c = do
+  texts ← texts_in file (files_of c) no_texts
+  problem_of_texts texts.domain texts.problem
+
 -- the files of a command are accepted, and make this case
 abbrev pub IsAccepted : Files → Command → PlainCase → Type 0
 IsAccepted file c made = case_in file c ≡ Ok made
@@ -57,6 +73,7 @@ abbrev pub refusal_on : Work → List ℕ → Texts → Option CaseFault
 refusal_on Check list texts = result_err (case_of texts.domain texts.problem texts.plan)
 refusal_on Replay list texts =
     result_err (case_of texts.domain texts.problem texts.plan >>= (λ c. durations_of (times_of c) list))
+refusal_on Plan list texts = result_err (problem_of_texts texts.domain texts.problem >>= task_in)
 
 abbrev pub refusal_in : Work → List ℕ → Result Texts CaseFault → Option CaseFault
 refusal_in work list (Err fault) = Some fault
@@ -90,6 +107,43 @@ pub record IsHeadline (read : Result PlainCase CaseFault) (answer : Answer) : Ty
   pub weak : (made : PlainCase) → read ≡ Ok made → (IsStrongPlan made.problem made.steps → ⊥)
       → IsWeakVerdict (grid_of made) (box_of made) answer
 
+-- the answer says that the goal cannot be reached
+pub record SaysUnreachable (answer : Answer) : Type 0 where
+  pub problem : Bor Problem
+  pub task : Bor Task
+  pub certificate : Bor Certificate
+  pub answered : answer ≡ answers.Unreachable problem task certificate
+
+-- the plan without steps is not strong
+abbrev pub IsEmptyPlanWeak : PlainProblem → Type 0
+IsEmptyPlanWeak problem = IsStrongPlan problem [] → ⊥
+
+-- the goal of a task is impossible in its least closed pair, or may hold in it
+abbrev pub IsImpossible : PlainTask → Type 0
+IsImpossible t = (pair : Pair) × IsLeastClosed t pair × (possible pair t.goal ≡ false)
+
+abbrev pub MayHold : PlainTask → Type 0
+MayHold t = (pair : Pair) × IsLeastClosed t pair × (possible pair t.goal ≡ true)
+
+-- no run of any plan of a problem executes
+abbrev pub IsHopeless : PlainProblem → Type 0
+IsHopeless p = (steps : List PlainPlaced) → IsPlan p steps → NeverExecutes (box_of_plan p steps)
+
+-- What is answered to `plan` on a problem and its task where nothing may be searched: the plan without steps exactly
+-- where it is strong; that the goal cannot be reached, with the least closed pair, exactly where the goal is impossible
+-- in that pair, and then no run of any plan executes; and otherwise that the budget is spent.
+pub record IsPlanAnswer (p : PlainProblem) (t : PlainTask) (answer : Answer) : Type 0 where
+  pub empty : (answer ≡ answers.EmptyPlan) ↔ IsStrongPlan p []
+  pub unreachable : SaysUnreachable answer ↔ IsImpossible t
+  pub certified : SaysUnreachable answer → IsUnreachable p t answer
+  pub hopeless : SaysUnreachable answer → IsHopeless p
+  pub spent : (answer ≡ answers.BudgetSpent) ↔ (IsEmptyPlanWeak p × MayHold t)
+
+-- The same of what is read: the first refusal of the problem's texts, or of its task, is answered.
+pub record IsPlanHeadline (read : Result PlainProblem CaseFault) (answer : Answer) : Type 0 where
+  pub refusals : (r : Refusal) → (read >>= task_in) ≡ Err (Refused r) → answer ≡ refused r
+  pub answers : (p : PlainProblem) (t : PlainTask) → read ≡ Ok p → task_in p ≡ Ok t → IsPlanAnswer p t answer
+
 -- each name of these files is steady
 abbrev pub AreSteady : StoreCall → List Named → Type 0
 AreSteady reads files = All (λ (f : Named). reads.steady f.name ≡ true) files
@@ -112,6 +166,13 @@ IsHeadlineOf reads writes words status =
     → status ≢ statuses.Memory → status ≢ statuses.OutsideFault
     → (answer : Answer) × IsHeadline (case_in file c) answer × IsWritten writes status answer
 
+-- the same of a `plan` and its headline
+abbrev pub IsPlanHeadlineOf : StoreCall → SinkCall → List (List ℕ) → Status → Type 0
+IsPlanHeadlineOf reads writes words status =
+    (file : Files) (c : Command) → command_of words ≡ Some c → c.work ≡ Plan → reads.told ≡ Some file
+    → status ≢ statuses.Memory → status ≢ statuses.OutsideFault
+    → (answer : Answer) × IsPlanHeadline (problem_in file c) answer × IsWritten writes status answer
+
 -- A call with a command as its words, over files of steady names and in which no write failed, ends with no fault of
 -- the outside.
 abbrev pub IsComplete : StoreCall → SinkCall → List (List ℕ) → Status → Type 0
@@ -127,6 +188,12 @@ abbrev pub ChecksMeetTheHeadline : Type 0
 ChecksMeetTheHeadline =
     (reads : StoreCall) (file : Files) (c : Command) (answer : Answer)
     → IsCheck reads file c → IsAllowedTo reads c answer → IsHeadline (case_in file c) answer
+
+-- an answer that may come to `plan` over told files of steady names is the one of its headline
+abbrev pub PlansMeetTheHeadline : Type 0
+PlansMeetTheHeadline =
+    (reads : StoreCall) (file : Files) (c : Command) (answer : Answer)
+    → c.work ≡ Plan → IsOverFiles reads file c → IsAllowedTo reads c answer → IsPlanHeadline (problem_in file c) answer
 
 -- of accepted files it says strong exactly where their plan is strong
 abbrev pub StrongIsExact : Type 0
@@ -169,6 +236,10 @@ RightAnswersHaveOneText =
 -- texts are refused or make a case: their definition never answers want of memory
 abbrev pub NoCaseIsWantOfMemory : Type 0
 NoCaseIsWantOfMemory = (domain problem plan : List ℕ) → IfErr (case_of domain problem plan) (λ fault. fault ≢ Memory)
+
+-- nor does that of the task of a problem
+abbrev pub NoTaskIsWantOfMemory : Type 0
+NoTaskIsWantOfMemory = (problem : PlainProblem) → IfErr (task_in problem) (λ fault. fault ≢ Memory)
 
 -- nor does that of a list of durations and moments
 abbrev pub NoListIsWantOfMemory : Type 0

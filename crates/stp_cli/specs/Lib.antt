@@ -9,6 +9,7 @@ pub mod Cases
 pub mod Replies
 pub mod Verdict
 pub mod Replay
+pub mod Planned
 pub mod Answers
 pub mod Outcome
 pub mod Headline

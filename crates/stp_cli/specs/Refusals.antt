@@ -10,6 +10,8 @@ use Rattle.stp_plan.specs.declared.fault.PlanFault.{PlanFault}
 use Rattle.stp_plan.specs.declared.fault.PlanFault.TheVariants as plans
 use Rattle.stp_exec.specs.declared.fault.ExecFault.{ExecFault}
 use Rattle.stp_exec.specs.declared.fault.ExecFault.TheVariants as execs
+use Rattle.stp_kept.specs.declared.fault.GroundFault.{GroundFault}
+use Rattle.stp_kept.specs.declared.fault.GroundFault.TheVariants as grounds
 use Rattle.stp_report.specs.declared.answer.Answer.{Answer}
 use Rattle.stp_report.specs.declared.answer.Answer.TheVariants as answers
 use Rattle.stp_report.specs.declared.answer.FileName.{FileName}
@@ -49,6 +51,16 @@ exec_fault (execs.Step step code) = refused_at files.Plan code step.0
 exec_fault execs.GridTooFine = refused_at files.Plan codes.X10 0
 exec_fault (execs.TimeTooLarge step) = refused_at files.Plan codes.X11 step.0
 exec_fault execs.Memory = Memory
+
+abbrev pub ground_fault : GroundFault → CaseFault
+ground_fault grounds.TooManyBindings = refused_at files.Task codes.G01 0
+ground_fault grounds.TooManyActions = refused_at files.Task codes.G02 0
+ground_fault grounds.TooManyAtoms = refused_at files.Task codes.G03 0
+ground_fault grounds.TooManyNodes = refused_at files.Task codes.G04 0
+ground_fault (grounds.DurationTooLarge action) = refused_at files.Task codes.G05 action.0
+ground_fault grounds.GridTooFine = refused_at files.Task codes.G06 0
+ground_fault grounds.UncontrollableEvent = refused_at files.Task codes.G07 0
+ground_fault grounds.Memory = Memory
 
 -- what is read, or what the fault is to a command
 abbrev pub or_fault : {A F : Type 0} → (F → CaseFault) → Result A F → Result A CaseFault

@@ -2,7 +2,7 @@
 use Rattle.std.specs.Prelude.{ℕ, ◌≤◌, List, [], length}
 use Rattle.stp_base.specs.declared.limits.TheConstants.{MAX_FILE_BYTES}
 use Rattle.stp_report.specs.declared.answer.FileName.{FileName}
-use Rattle.stp_report.specs.declared.answer.FileName.TheVariants.{Domain, Problem, Plan, Durations}
+use Rattle.stp_report.specs.declared.answer.FileName.TheVariants.{Domain, Problem, Plan, Durations, Task}
 use Rattle.stp_cli.specs.declared.texts.Texts.{Texts}
 
 abbrev pub no_texts : Texts
@@ -14,6 +14,7 @@ with_text Domain text texts = record texts { domain = text }
 with_text Problem text texts = record texts { problem = text }
 with_text Plan text texts = record texts { plan = text }
 with_text Durations text texts = texts
+with_text Task text texts = texts
 
 -- texts that a file can have
 pub record AreShort (texts : Texts) : Type 0 where

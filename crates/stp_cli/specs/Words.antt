@@ -4,6 +4,7 @@ use Rattle.std.specs.List.{list_all}
 use Rattle.stp_report.specs.declared.answer.FileName.{FileName}
 use Rattle.stp_report.specs.declared.answer.FileName.TheVariants.{Domain, Problem, Plan}
 use Rattle.stp_cli.specs.declared.words.Work.{Work}
+use Rattle.stp_cli.specs.declared.words.Work.TheVariants as works
 use Rattle.stp_cli.specs.declared.words.Work.TheVariants.{Check, Replay}
 
 -- a file of a command: what it is, and its name
@@ -25,6 +26,7 @@ pub record Command : Type 0 where
 abbrev pub roles_of : Work → List FileName
 roles_of Check = Domain ∷ Problem ∷ Plan ∷ []
 roles_of Replay = Domain ∷ Problem ∷ Plan ∷ []
+roles_of works.Plan = Domain ∷ Problem ∷ []
 
 -- each role with the name in its place
 abbrev pub named_of : List FileName → List (List ℕ) → List Named
@@ -61,12 +63,24 @@ abbrev pub replay_with : List (List ℕ) → List (List ℕ) → Option Command
 replay_with names (option ∷ list ∷ []) = replay_in option list names
 replay_with names others = None
 
+-- `DOMAIN PROBLEM --budget 0`
+abbrev pub plan_in : List ℕ → List ℕ → List (List ℕ) → Option Command
+plan_in option budget names =
+    if bytes_eq option (codes "--budget") && bytes_eq budget (codes "0")
+    then command_with works.Plan names []
+    else None
+
+abbrev pub plan_with : List (List ℕ) → List (List ℕ) → Option Command
+plan_with names (option ∷ budget ∷ []) = plan_in option budget names
+plan_with names others = None
+
 -- what the words behind a command's word have to be: a line for each command
 abbrev pub row_of : List ℕ → List (List ℕ) → Option Command
 row_of word rest =
     if bytes_eq word (codes "check") then command_with Check rest [] else
     (if bytes_eq word (codes "replay") then replay_with (take 3 rest) (drop 3 rest) else
-    None)
+    (if bytes_eq word (codes "plan") then plan_with (take 2 rest) (drop 2 rest) else
+    None))
 
 -- The command that these words are, with the program's name first. No other list is a command.
 abbrev pub command_of : List (List ℕ) → Option Command

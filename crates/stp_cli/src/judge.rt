@@ -6,6 +6,7 @@ ghost use Rattle.stp_cli.specs.Replies.{IsReply};
 ghost use Rattle.stp_cli.specs.Answers.{IsChecked, IsReplayed, IsRight};
 
 use crate::case::{read_problem_texts, read_steps};
+use crate::plan::plan_texts;
 use crate::replay::replay;
 use crate::reply::{Reply, refuse};
 use crate::texts::Texts;
@@ -67,5 +68,6 @@ pub fn judge(alloc: Global, work: Work, list: &str, texts: &Texts) -> Result<Rep
     match work {
         Work::Check => check_texts(alloc, texts),
         Work::Replay => replay_texts(alloc, texts, list),
+        Work::Plan => plan_texts(alloc, texts),
     }
 }

@@ -1,10 +1,15 @@
 //! Laws of the answers that may come. Nothing here runs.
 
-ghost use Rattle.stp_cli.specs.Headline.{ChecksMeetTheHeadline, StrongIsExact, ChecksAreOfTexts, ChecksHaveOneText, NoCaseIsWantOfMemory, NoListIsWantOfMemory, RefusalsAreExact, RightAnswersAreNoFaults, RightAnswersHaveOneText, SteadyNamesAreRead};
+ghost use Rattle.stp_cli.specs.Headline.{ChecksMeetTheHeadline, StrongIsExact, ChecksAreOfTexts, ChecksHaveOneText, NoCaseIsWantOfMemory, NoListIsWantOfMemory, RefusalsAreExact, RightAnswersAreNoFaults, RightAnswersHaveOneText, SteadyNamesAreRead, PlansMeetTheHeadline, NoTaskIsWantOfMemory};
 
 /// An answer that may come to `check` over told files of steady names is the one of the headline.
 pub fn checks_meet_the_headline()
     ensures { ChecksMeetTheHeadline }
+{}
+
+/// An answer that may come to `plan` over told files of steady names is the one of its headline.
+pub fn plans_meet_the_headline()
+    ensures { PlansMeetTheHeadline }
 {}
 
 /// Of accepted files `check` says strong exactly where their plan is strong.
@@ -33,10 +38,11 @@ pub fn right_answers_have_one_text()
     ensures { RightAnswersHaveOneText }
 {}
 
-/// Texts are refused or make a case, and lists are refused or read: no definition answers want of memory.
+/// Texts are refused or make a case, problems a task, and lists are refused or read: no definition answers want of memory.
 pub fn nothing_wants_memory()
     ensures cases { NoCaseIsWantOfMemory }
     ensures lists { NoListIsWantOfMemory }
+    ensures tasks { NoTaskIsWantOfMemory }
 {}
 
 /// What is right on texts is no fault of the outside.

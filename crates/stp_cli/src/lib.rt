@@ -5,6 +5,7 @@ mod case;
 mod judge;
 pub mod laws;
 mod loading;
+mod plan;
 mod refusal;
 mod replay;
 mod reply;

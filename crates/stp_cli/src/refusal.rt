@@ -1,11 +1,12 @@
 //! Refusals of files, and why there is no case.
 
 ghost use Rattle.std.specs.Prelude.{◌≡◌};
-ghost use Rattle.stp_cli.specs.Refusals.{refused_at, text_fault, read_fault, plan_fault, exec_fault};
+ghost use Rattle.stp_cli.specs.Refusals.{refused_at, text_fault, read_fault, plan_fault, exec_fault, ground_fault};
 ghost use Rattle.stp_cli.specs.declared.refusal.CaseFault.TheVariants.{Memory as OutOfMemory};
 
 use stp_base::Memory;
 use stp_exec::ExecFault;
+use stp_kept::GroundFault;
 use stp_plan::PlanFault;
 use stp_refusal::{Code, ReadFault};
 use stp_report::FileName;
@@ -91,5 +92,21 @@ pub(crate) fn exec_refused(fault: ExecFault) -> CaseFault
         ExecFault::GridTooFine => refused(FileName::Plan, Code::X10, 0),
         ExecFault::TimeTooLarge(step) => refused(FileName::Plan, Code::X11, step.0),
         ExecFault::Memory => CaseFault::Memory,
+    }
+}
+
+/// A fault of grounding as what it is to a command.
+pub(crate) fn ground_refused(fault: GroundFault) -> CaseFault
+    ensures { result ≡ ground_fault fault }
+{
+    match fault {
+        GroundFault::TooManyBindings => refused(FileName::Task, Code::G01, 0),
+        GroundFault::TooManyActions => refused(FileName::Task, Code::G02, 0),
+        GroundFault::TooManyAtoms => refused(FileName::Task, Code::G03, 0),
+        GroundFault::TooManyNodes => refused(FileName::Task, Code::G04, 0),
+        GroundFault::DurationTooLarge(action) => refused(FileName::Task, Code::G05, action.0),
+        GroundFault::GridTooFine => refused(FileName::Task, Code::G06, 0),
+        GroundFault::UncontrollableEvent => refused(FileName::Task, Code::G07, 0),
+        GroundFault::Memory => CaseFault::Memory,
     }
 }

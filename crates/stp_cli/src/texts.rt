@@ -40,6 +40,7 @@ impl Texts {
             FileName::Problem => self.problem = text,
             FileName::Plan => self.plan = text,
             FileName::Durations => {}
+            FileName::Task => {}
         }
     }
 }

@@ -7,7 +7,7 @@ ghost use Rattle.stp_cli.specs.Words.{command_of, roles_of};
 ghost use Rattle.stp_cli.specs.Loading.{IsUnloaded};
 ghost use Rattle.stp_cli.specs.Replies.{IsReply};
 ghost use Rattle.stp_cli.specs.Outcome.{IsAllowedTo, IsAllowed, IsOutcome};
-ghost use Rattle.stp_cli.specs.Headline.{IsHeadlineOf, IsComplete};
+ghost use Rattle.stp_cli.specs.Headline.{IsHeadlineOf, IsPlanHeadlineOf, IsComplete};
 
 use crate::judge::judge;
 use crate::loading::{Unloaded, load_all};
@@ -122,6 +122,11 @@ pub fn run<S: Store, K: Sink>(
         (map string_bytes words.now)
         result }
     ensures headline { IsHeadlineOf
+        (store_call S.files S.steady S.faults store.old store.new)
+        (sink_call K.written K.faults sink.old sink.new)
+        (map string_bytes words.now)
+        result }
+    ensures plan_headline { IsPlanHeadlineOf
         (store_call S.files S.steady S.faults store.old store.new)
         (sink_call K.written K.faults sink.old sink.new)
         (map string_bytes words.now)

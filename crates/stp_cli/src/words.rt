@@ -2,7 +2,7 @@
 
 ghost use Rattle.std.specs.Prelude.{◌≡◌, map, length, string_bytes, option_map, IfSome};
 ghost use Rattle.std.specs.List.{list_all};
-ghost use Rattle.stp_cli.specs.Words.{is_file_word, roles_of, command_with, replay_in, replay_with, row_of, command_of};
+ghost use Rattle.stp_cli.specs.Words.{is_file_word, roles_of, command_with, replay_in, replay_with, plan_in, plan_with, row_of, command_of};
 ghost use Rattle.stp_cli.specs.Named.{plain_command};
 
 use stp_report::FileName;
@@ -14,6 +14,8 @@ pub enum Work {
     Check,
     /// The run of a plan under the durations that a text lists.
     Replay,
+    /// A plan that is found without a search.
+    Plan,
 }
 
 /// What words ask for.
@@ -29,6 +31,9 @@ pub struct Command<'a> {
 /// The files of a case.
 static CASE: [FileName; 3] = [FileName::Domain, FileName::Problem, FileName::Plan];
 
+/// The files of a problem.
+static WORLD: [FileName; 2] = [FileName::Domain, FileName::Problem];
+
 /// Which files a work wants, in the order in which they are named and loaded.
 pub fn roles_of(work: Work) -> &'static [FileName]
     ensures { result.now ≡ roles_of work }
@@ -36,6 +41,7 @@ pub fn roles_of(work: Work) -> &'static [FileName]
     match work {
         Work::Check => &CASE,
         Work::Replay => &CASE,
+        Work::Plan => &WORLD,
     }
 }
 
@@ -97,6 +103,30 @@ fn replay_with<'a>(names: &'a [String], options: &'a [String]) -> Option<Command
     }
 }
 
+/// `plan` on these files, where the option and its budget are the ones that there are.
+fn plan_in<'a>(option: &str, budget: &str, names: &'a [String]) -> Option<Command<'a>>
+    ensures command { option_map plain_command result
+        ≡ plan_in option.now budget.now (map string_bytes names.now) }
+    ensures complete { IfSome result (λ c. length c.names.now ≡ length (roles_of c.work)) }
+{
+    if option == "--budget" && budget == "0" {
+        return command_with(Work::Plan, names, "");
+    }
+    None
+}
+
+/// `plan` on these files, where the words behind them are an option and its budget.
+fn plan_with<'a>(names: &'a [String], options: &'a [String]) -> Option<Command<'a>>
+    ensures command { option_map plain_command result
+        ≡ plan_with (map string_bytes names.now) (map string_bytes options.now) }
+    ensures complete { IfSome result (λ c. length c.names.now ≡ length (roles_of c.work)) }
+{
+    match options {
+        [option, budget] => plan_in(option.as_str(), budget.as_str(), names),
+        _ => None,
+    }
+}
+
 /// The command that a word and those behind it are: a line for each command.
 fn row_of<'a>(word: &str, rest: &'a [String]) -> Option<Command<'a>>
     ensures command { option_map plain_command result ≡ row_of word.now (map string_bytes rest.now) }
@@ -107,6 +137,10 @@ fn row_of<'a>(word: &str, rest: &'a [String]) -> Option<Command<'a>>
         "replay" => {
             let (names, options) = rest.split_at(rest.len().min(3));
             replay_with(names, options)
+        }
+        "plan" => {
+            let (names, options) = rest.split_at(rest.len().min(2));
+            plan_with(names, options)
         }
         _ => None,
     }

@@ -2,3 +2,4 @@ pub mod FaultTimes
 mod Times
 mod Runs
 pub mod OneText
+mod JoinedTexts

@@ -1,5 +1,5 @@
 -- The times that are printed are on their grid: of 1 to 999,999,999 parts, and at most 999,999,999 units.
-use Rattle.std.specs.Prelude.{ℕ, ◌≤◌, ◌*◌, List, All, Option, IfSome}
+use Rattle.std.specs.Prelude.{ℕ, ◌≤◌, ◌*◌, List, All, IfSome}
 use Rattle.stp_base.specs.declared.limits.TheConstants.{MAX_GRID, MAX_TIME}
 use Rattle.stp_happen.specs.declared.fault.Fault.{Fault}
 use Rattle.stp_happen.specs.declared.fault.Fault.TheVariants as faults
@@ -33,6 +33,9 @@ abbrev pub AreTimes : Answer → Type 0
 AreTimes (answers.Strong steps uncertain events grid) = Unit {0}
 AreTimes (answers.Weak grid durations fault) = AreWeakTimes grid durations.now fault
 AreTimes (answers.Replay run fault) = IfSome fault (IsFaultTime run.now.grid)
+AreTimes answers.EmptyPlan = Unit {0}
+AreTimes (answers.Unreachable problem task certificate) = Unit {0}
+AreTimes answers.BudgetSpent = Unit {0}
 AreTimes (answers.Refused file code at) = Unit {0}
 AreTimes (answers.ReadFault file) = Unit {0}
 AreTimes answers.Usage = Unit {0}

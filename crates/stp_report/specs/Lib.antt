@@ -1,3 +1,4 @@
+pub mod NoPlan
 pub mod Texts
 pub mod Bounds
 pub mod OneText

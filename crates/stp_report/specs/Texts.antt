@@ -9,6 +9,9 @@ use Rattle.stp_happen.specs.declared.fault.Fault.{Fault}
 use Rattle.stp_happen.specs.declared.fault.Fault.TheVariants as faults
 use Rattle.stp_happen.specs.declared.run.Entry.{Entry}
 use Rattle.stp_happen.specs.declared.run.Span.{Span}
+use Rattle.stp_schema.specs.Views.{problem_of}
+use Rattle.stp_cond.specs.Views.{atoms_of}
+use Rattle.stp_report.specs.NoPlan.{unreachable_text}
 use Rattle.stp_report.specs.declared.answer.Answer.{Answer}
 use Rattle.stp_report.specs.declared.answer.Answer.TheVariants as answers
 use Rattle.stp_report.specs.declared.answer.FileName.{FileName}
@@ -23,6 +26,7 @@ file_text files.Domain = codes "domain"
 file_text files.Problem = codes "problem"
 file_text files.Plan = codes "plan"
 file_text files.Durations = codes "durations"
+file_text files.Task = codes "task"
 
 abbrev pub code_text : Code → List ℕ
 code_text code.F01 = codes "F01"
@@ -181,6 +185,9 @@ abbrev pub text_of : Answer → List ℕ
 text_of (answers.Strong steps uncertain events grid) = line (codes "strong") ++ strong_line steps uncertain events grid
 text_of (answers.Weak grid durations fault) = line (codes "not strong") ++ line (codes "durations " ++ durations_text grid durations.now) ++ fault_line grid fault
 text_of (answers.Replay run fault) = entry_lines run.now.grid run.now.spans run.now.entries ++ ending_line run.now.grid fault
+text_of answers.EmptyPlan = line (codes "; plan 0 steps")
+text_of (answers.Unreachable problem task certificate) = unreachable_text (problem_of problem.now) task.now.atoms (atoms_of certificate.now.may) (atoms_of certificate.now.always)
+text_of answers.BudgetSpent = line (codes "budget spent")
 text_of (answers.Refused file code at) = line (codes "refused " ++ file_text file ++ codes " " ++ code_text code ++ codes " at " ++ decimal at)
 text_of (answers.ReadFault file) = line (codes "fault read " ++ file_text file)
-text_of answers.Usage = line (codes "usage: stp check DOMAIN PROBLEM PLAN") ++ line (codes "       stp replay DOMAIN PROBLEM PLAN --durations LIST")
+text_of answers.Usage = line (codes "usage: stp check DOMAIN PROBLEM PLAN") ++ line (codes "       stp plan DOMAIN PROBLEM [--budget N] [--trace]") ++ line (codes "       stp replay DOMAIN PROBLEM PLAN --durations LIST")

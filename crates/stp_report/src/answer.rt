@@ -2,14 +2,17 @@
 
 use stp_happen::{Fault, Run};
 use stp_refusal::Code;
+use stp_schema::Problem;
+use stp_task::{Certificate, Task};
 
-/// What a refusal is about: a file that the command line names, or its list of durations.
+/// What a refusal is about: a file that the command line names, its list of durations, or the task of a problem.
 #[derive(Clone, Copy, Debug, PartialEq, Eq)]
 pub enum FileName {
     Domain,
     Problem,
     Plan,
     Durations,
+    Task,
 }
 
 /// What the program answers. Moments and durations are counted on the grid beside them. A run is lent for less
@@ -35,6 +38,16 @@ pub enum Answer<'r, 'a> {
         run: &'r Run<'a>,
         fault: Option<Fault>,
     },
+    /// The plan without steps is strong.
+    EmptyPlan,
+    /// No plan reaches the goal, as this certificate of the problem's task shows.
+    Unreachable {
+        problem: &'r Problem<'a>,
+        task: &'r Task<'a>,
+        certificate: &'r Certificate,
+    },
+    /// The search's budget was spent.
+    BudgetSpent,
     /// A file is refused, at a place of it.
     Refused {
         file: FileName,

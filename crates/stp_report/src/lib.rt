@@ -5,6 +5,7 @@ pub mod answer;
 pub mod code;
 pub mod fault;
 pub mod laws;
+pub mod no_plan;
 pub mod pieces;
 pub mod print;
 pub mod replay;

@@ -8,6 +8,7 @@ ghost use Rattle.stp_report.specs.Bounds.{IsGrid, IsTime, IsFaultTime, AreTimes}
 use crate::answer::{Answer, FileName};
 use crate::code::code_word;
 use crate::fault::push_fault_line;
+use crate::no_plan::push_unreachable;
 use crate::pieces::{push_number, push_time, push_words};
 use crate::replay::push_replay;
 use std::alloc::Global;
@@ -23,6 +24,7 @@ fn file_word(file: FileName) -> &'static str
         FileName::Problem => "problem",
         FileName::Plan => "plan",
         FileName::Durations => "durations",
+        FileName::Task => "task",
     }
 }
 
@@ -142,9 +144,14 @@ fn push_usage(out: &mut Text) -> Result<(), Memory>
         (out.new
         ≡ out.old
         ++ line (codes "usage: stp check DOMAIN PROBLEM PLAN")
+        ++ line (codes "       stp plan DOMAIN PROBLEM [--budget N] [--trace]")
         ++ line (codes "       stp replay DOMAIN PROBLEM PLAN --durations LIST")) }
 {
     push_words("usage: stp check DOMAIN PROBLEM PLAN\n", out)?;
+    push_words(
+        "       stp plan DOMAIN PROBLEM [--budget N] [--trace]\n",
+        out,
+    )?;
     push_words(
         "       stp replay DOMAIN PROBLEM PLAN --durations LIST\n",
         out,
@@ -169,6 +176,13 @@ fn push_answer(alloc: Global, answer: &Answer<'_, '_>, out: &mut Text) -> Result
             fault,
         } => push_weak(alloc, *grid, durations, *fault, out),
         Answer::Replay { run, fault } => push_replay(alloc, run, *fault, out),
+        Answer::EmptyPlan => push_words("; plan 0 steps\n", out),
+        Answer::Unreachable {
+            problem,
+            task,
+            certificate,
+        } => push_unreachable(problem, task, certificate, out),
+        Answer::BudgetSpent => push_words("budget spent\n", out),
         Answer::Refused { file, code, at } => push_refused(alloc, *file, *code, *at, out),
         Answer::ReadFault(file) => push_read_fault(alloc, *file, out),
         Answer::Usage => push_usage(out),

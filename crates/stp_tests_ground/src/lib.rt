@@ -13,8 +13,12 @@ mod events;
 #[cfg(test)]
 mod fitting;
 #[cfg(test)]
+mod grounding;
+#[cfg(test)]
 mod instances;
 #[cfg(test)]
 mod lists;
+#[cfg(test)]
+mod pairs;
 #[cfg(test)]
 mod setting;

@@ -5,11 +5,11 @@ use std::test::Fail;
 use stp_cli::Status;
 
 const USAGE: &[u8] =
-    b"usage: stp check DOMAIN PROBLEM PLAN\n       stp replay DOMAIN PROBLEM PLAN --durations LIST\n";
+    b"usage: stp check DOMAIN PROBLEM PLAN\n       stp plan DOMAIN PROBLEM [--budget N] [--trace]\n       stp replay DOMAIN PROBLEM PLAN --durations LIST\n";
 
 #[test]
 fn command_lines(rt: HostRuntime) -> Result<(), Fail> {
-    let rows: [&[&str]; 16] = [
+    let rows: [&[&str]; 23] = [
         &[],
         &["stp"],
         &["stp", "check", "d"],
@@ -19,6 +19,13 @@ fn command_lines(rt: HostRuntime) -> Result<(), Fail> {
         &["stp", "check", "d", "", "l"],
         &["stp", "Check", "d", "p", "l"],
         &["stp", "plan", "d", "p", "l"],
+        &["stp", "plan", "d", "p"],
+        &["stp", "plan", "d", "--budget", "0"],
+        &["stp", "plan", "d", "p", "--budget"],
+        &["stp", "plan", "d", "p", "--budget", "00"],
+        &["stp", "plan", "d", "p", "--budget", "0", "--trace"],
+        &["stp", "plan", "--budget", "0", "d", "p"],
+        &["stp", "plan", "d", "p", "l", "--budget", "0"],
         &["stp", "replay", "d", "p", "l"],
         &["stp", "replay", "d", "p", "l", "--durations"],
         &["stp", "replay", "d", "p", "l", "--durations", ""],

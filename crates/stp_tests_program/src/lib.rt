@@ -11,6 +11,8 @@ mod lab;
 #[cfg(test)]
 mod outside;
 #[cfg(test)]
+mod plans;
+#[cfg(test)]
 mod refusals;
 #[cfg(test)]
 mod replays;

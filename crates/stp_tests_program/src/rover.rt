@@ -4,7 +4,7 @@ use crate::setting::{CHECK, answers};
 use std::test::Fail;
 use stp_cli::Status;
 
-const ROVER: &[u8] = b"(define (domain rover)
+pub const ROVER: &[u8] = b"(define (domain rover)
  (:requirements :typing :durative-actions)
  (:types rover place - object)
  (:predicates (at ?r - rover ?p - place) (road ?a ?b - place)

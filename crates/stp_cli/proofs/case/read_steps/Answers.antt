@@ -1,4 +1,4 @@
-use Rattle.std.proofs.Common.{◌≡◌, Ok, Err, Some, map, sym, ap, ap₂, subst, ◌∙◌}
+use Rattle.std.proofs.Common.{◌≡◌, Ok, Err, map, sym, ap, ap₂, subst, ◌∙◌}
 use Rattle.stp_schema.specs.Views.{PlainProblem, problem_of}
 use Rattle.stp_plan.specs.Views.{plain_plan}
 use Rattle.stp_ground.specs.Worlds.{problem_in}
@@ -6,7 +6,6 @@ use Rattle.stp_exec.specs.Placed.{placed_from, times_of}
 use Rattle.stp_exec.specs.Plans.{IsPlan, grid_of_plan, box_of_plan}
 use Rattle.stp_exec.specs.Boxed.{beyond_limits}
 use Rattle.stp_exec.specs.Views.{plain_placed}
-use Rattle.stp_exec.specs.declared.fault.ExecFault.TheVariants as execs
 use Rattle.stp_cli.specs.Refusals.{exec_fault}
 use Rattle.stp_exec.proofs.PlacedSteps.{lawful_starts}
 use Rattle.stp_cli.proofs.Casing.{refused_lines, refused_step, refused_limit, are_steps}

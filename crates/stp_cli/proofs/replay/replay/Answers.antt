@@ -1,4 +1,4 @@
-use Rattle.std.proofs.Common.{◌≡◌, true, Ok, map, length, sym, ap, subst, ◌∙◌, arith}
+use Rattle.std.proofs.Common.{Ok, map, sym, ap, ◌∙◌, arith}
 use Rattle.std.proofs.lemmas.Result.{IfOk-weaker}
 use Rattle.stp_frac.specs.Fractions.{value_of}
 use Rattle.stp_cli.proofs.Verdicts.{grid_low, grid_high}

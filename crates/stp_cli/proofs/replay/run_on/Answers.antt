@@ -1,7 +1,6 @@
 use Rattle.std.proofs.Common.{◌*◌, subst, ◌∙◌}
 use Rattle.std.proofs.lemmas.Result.{IfOk-weaker}
 use Rattle.stp_happen.specs.BoxViews.{plain_box}
-use Rattle.stp_happen.specs.Boxes.{finer_box}
 use Rattle.stp_cli.specs.Replay.{IsRunWith}
 use Rattle.stp_cli.proofs.Replays.{some_times, run_with}
 use Rattle.stp_cli.proofs.replay.run_on.Goals as goal
