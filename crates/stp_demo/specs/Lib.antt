@@ -1,0 +1,4 @@
+pub mod Pieces
+pub mod Domain
+pub mod Problem
+pub mod Plan
