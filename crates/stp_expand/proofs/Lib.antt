@@ -1,0 +1,10 @@
+pub mod Members
+pub mod Merged
+pub mod UsedSets
+pub mod Meaning
+pub mod Rows
+pub mod Picking
+pub mod Shadows
+pub mod Placing
+pub mod Numbered
+pub mod Parts

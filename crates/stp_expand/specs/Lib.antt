@@ -1,0 +1,4 @@
+pub mod Footprints
+pub mod Expanded
+pub mod Laws
+pub mod Views

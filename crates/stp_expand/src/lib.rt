@@ -1,0 +1,14 @@
+//! The expansion of over-all conditions over the ends of uncertain actions that may have come or not.
+#![tactic(auto)]
+
+pub mod expanding;
+pub mod fault;
+pub mod footprint;
+mod formulas;
+pub mod laws;
+mod merging;
+mod sets;
+
+pub use expanding::expand;
+pub use fault::ExpandFault;
+pub use footprint::Footprint;
