@@ -1,0 +1,7 @@
+(define (problem ONE-MORNING)
+ (:domain CREW-PLANNING)
+ (:requirements :typing)
+ (:objects CREW1 CREW2 - crew-member TREADMILL - machine FILTER1 - filter)
+ (:init (asleep crew1) (asleep crew2) (free treadmill))
+ (:goal (and (forall (?c - crew-member) (and (fed ?c) (exercised ?c))) (changed filter1)))
+ (:metric minimize (total-time)))

@@ -1,0 +1,6 @@
+(define (problem TWO-FUSES)
+ (:domain MATCHCELLAR)
+ (:objects MATCH0 - match FUSE0 FUSE1 - fuse)
+ (:init (HANDFREE) (UNUSED MATCH0))
+ (:goal (and (MENDED FUSE0) (MENDED FUSE1)))
+ (:metric minimize (total-time)))

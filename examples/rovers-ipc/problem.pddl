@@ -1,0 +1,11 @@
+; The orbiter relays from 15 to 30.
+(define (problem ONE-SAMPLE)
+ (:domain ROVERS)
+ (:objects GENERAL - lander ROVER0 - rover ROVER0STORE - store WAYPOINT0 WAYPOINT1 - waypoint)
+ (:init (visible waypoint0 waypoint1) (visible waypoint1 waypoint0)
+  (at rover0 waypoint1) (at_lander general waypoint1) (can_traverse rover0 waypoint1 waypoint0)
+  (can_traverse rover0 waypoint0 waypoint1) (available rover0) (channel_free general)
+  (store_of rover0store rover0) (empty rover0store) (at_soil_sample waypoint0)
+  (at 15 (relayed general)) (at 30 (not (relayed general))))
+ (:goal (and (communicated_soil_data waypoint0)))
+ (:metric minimize (total-time)))
