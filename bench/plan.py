@@ -71,12 +71,27 @@ def nodes(size):
     )
 
 
+def conjunctions(size):
+    """A hundred instances, each of which needs so many atoms that become possible one after the other."""
+    us = " ".join(f"u{i}" for i in range(size))
+    ts = " ".join(f"t{i}" for i in range(100))
+    ways = " ".join(f"(next u{i} u{i + 1})" for i in range(size - 1))
+    return (
+        "(define (domain conjunctions) (:types t u) (:predicates (p ?y - u) (next ?a ?b - u) (g ?x - t) (never))\n"
+        "(:action go :parameters (?a ?b - u) :precondition (and (p ?a) (next ?a ?b)) :effect (p ?b))\n"
+        "(:action all :parameters (?x - t) :precondition (forall (?y - u) (p ?y)) :effect (g ?x)))\n",
+        f"(define (problem y) (:domain conjunctions) (:objects {us} - u {ts} - t)\n"
+        f"(:init (p u0) {ways}) (:goal (never)))\n",
+    )
+
+
 def main():
     runs = int(sys.argv[1]) if len(sys.argv) > 1 else 3
     table("movers in a chain of rooms", rooms, (15, 31, 62, 125), runs, "plan", OPTIONS)
     table("the same with a disjunction", disjunctive, (15, 31, 62, 125), runs, "plan", OPTIONS)
     table("bindings of six parameters", joined, (5, 7, 9, 11), runs, "plan", OPTIONS)
     table("nodes of 10,000 instances", nodes, (125, 250, 500, 990), runs, "plan", OPTIONS)
+    table("atoms of 100 conjunctions", conjunctions, (350, 700, 1_400), runs, "plan", OPTIONS)
 
 
 if __name__ == "__main__":
