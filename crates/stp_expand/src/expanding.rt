@@ -2,6 +2,7 @@
 
 ghost use Rattle.std.specs.Prelude.{◌≡◌, ◌≤◌, ◌++◌, ◌∷◌, [], false, true, if◌then◌else◌, map, length, Err, IfOk, OnOk};
 ghost use Rattle.std.specs.List.{list_any};
+ghost use Rattle.stp_base.specs.declared.limits.TheConstants.{MAX_FOOTPRINTS};
 ghost use Rattle.stp_cond.specs.Formulas.{view, formulas_of, Conjunction};
 ghost use Rattle.stp_expand.specs.declared.fault.ExpandFault.TheVariants.{TooManyFootprints};
 ghost use Rattle.stp_expand.specs.Expanded.{expanded, expanded_whole, is_consistent, set_formula, under_footprints, used_sets};
@@ -46,7 +47,7 @@ fn with_sets<'a>(
     footprints: &[Footprint<'a>],
     shadow_of: &[Option<AtomId>],
 ) -> Result<Cond<'a>, Memory>
-    requires { length footprints.now ≤ 10 }
+    requires { length footprints.now ≤ MAX_FOOTPRINTS }
     ensures { IfOk result
         (λ r. view r ≡ Conjunction (formulas_of (view cond.now ∷ map (set_formula (shadow_in shadow_of.now) (view cond.now)) (used_sets (footprints_of footprints.now))))) }
 {
@@ -68,7 +69,7 @@ fn under_footprints<'a>(
     footprints: &[Footprint<'a>],
     shadow_of: &[Option<AtomId>],
 ) -> Result<Cond<'a>, Memory>
-    requires { length footprints.now ≤ 10 }
+    requires { length footprints.now ≤ MAX_FOOTPRINTS }
     ensures { IfOk result
         (λ r. view r ≡ under_footprints (shadow_in shadow_of.now) (view cond.now) (footprints_of footprints.now)) }
 {

@@ -2,6 +2,7 @@
 
 ghost use Rattle.std.specs.Prelude.{◌≡◌, ◌≤◌, ◌^◌, not, IfOk};
 ghost use Rattle.std.specs.List.{list_all};
+ghost use Rattle.stp_base.specs.declared.limits.TheConstants.{MAX_FOOTPRINTS};
 ghost use Rattle.stp_cond.specs.Atoms.{has, have_common};
 ghost use Rattle.stp_cond.specs.Views.{atoms_of};
 ghost use Rattle.stp_expand.specs.Expanded.{picked, is_consistent};
@@ -32,7 +33,7 @@ pub(crate) fn picked<'a>(
 
 /// How many sets of that many footprints there are.
 pub(crate) fn sets_of(footprints: usize) -> usize
-    requires { footprints ≤ 10 }
+    requires { footprints ≤ MAX_FOOTPRINTS }
     ensures { result ≡ 2 ^ footprints }
 {
     1 << footprints
