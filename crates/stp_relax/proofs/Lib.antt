@@ -2,6 +2,7 @@ pub mod Tests
 pub mod Deciding
 pub mod Growing
 pub mod Takes
+pub mod LookedAt
 pub mod Parts
 pub mod Closing
 pub mod Readers

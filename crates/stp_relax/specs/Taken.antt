@@ -55,6 +55,12 @@ pub record IsAdmitted (e : PlainHappening) (q r : Progress) : Type 0 where
   pub allowed : IsAllowed (pair_so_far r) e
   pub least : (other : Pair) → IsWithin (pair_so_far q) other → IsAllowed other e → IsWithin (pair_so_far r) other
 
+-- the same of an event where it was possible
+pub record IsBegun (e : PlainHappening) (q r : Progress) : Type 0 where
+  pub grown : IsGrown q r
+  pub allowed : possible (pair_so_far q) e.cond ≡ true → IsAllowed (pair_so_far r) e
+  pub least : (other : Pair) → IsWithin (pair_so_far q) other → (possible other e.cond ≡ true → IsAllowed other e) → IsWithin (pair_so_far r) other
+
 -- the same of an event that was possible together with another condition
 pub record IsFinished (over : Formula) (e : PlainHappening) (q r : Progress) : Type 0 where
   pub grown : IsGrown q r

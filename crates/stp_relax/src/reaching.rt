@@ -7,10 +7,11 @@ ghost use Rattle.stp_task.specs.CertificateViews.{pair_of};
 ghost use Rattle.stp_task.specs.SoundTask.{IsActionInRange};
 ghost use Rattle.stp_task.specs.Tasks.{plain_task};
 ghost use Rattle.stp_relax.specs.Reached.{AreAdmitted, AreTaken, AreTakenAt, HasBegun, IsTakenAt, IsReached};
-ghost use Rattle.stp_relax.specs.Taken.{IsOfSize};
+ghost use Rattle.stp_relax.specs.Seen.{AreSeen, IsUnseen};
+ghost use Rattle.stp_relax.specs.Taken.{IsOfSize, pair_so_far};
 
 use crate::listing::listed;
-use crate::progress::{Progress, next};
+use crate::progress::{Progress, Seen, next};
 use crate::taking::{admit, take};
 use crate::watching::readers;
 use std::alloc::Global;
@@ -29,18 +30,6 @@ fn admit_all(timed: &[TimedEvent<'_>], progress: &mut Progress) -> Result<(), Me
     Ok(())
 }
 
-/// Takes over what the possible events of these actions add and delete.
-fn take_all(actions: &[GroundAction<'_>], progress: &mut Progress) -> Result<(), Memory>
-    requires size { IsOfSize (length progress.old.may) progress.old }
-    requires in_range { All (IsActionInRange (length progress.old.may)) actions.now }
-    ensures { OnOk result (AreTaken actions.now progress.old progress.new) }
-{
-    for action in actions {
-        take(action, progress)?;
-    }
-    Ok(())
-}
-
 /// What is possible at first, and with the events of the environment.
 fn begun(alloc: Global, task: &Task<'_>) -> Result<Progress, Memory>
     ensures { IfOk result (λ r. HasBegun (plain_task task.now) r) }
@@ -54,20 +43,58 @@ fn begun(alloc: Global, task: &Task<'_>) -> Result<Progress, Memory>
     Ok(progress)
 }
 
+/// That so many actions have not been looked at.
+fn unseen(alloc: Global, count: usize) -> Result<Vec<Seen>, Memory>
+    ensures { IfOk result (λ r. (length r.items ≡ count) × All IsUnseen r.items) }
+{
+    let mut seen = Vec::new(alloc);
+    for _ in 0..count {
+        seen.push(Seen {
+            start: 0,
+            over: 0,
+            finish: 0,
+            has_begun: false,
+            has_ended: false,
+        })?;
+    }
+    Ok(seen)
+}
+
 /// Takes over what the possible events of the action at a place add and delete, if there is one.
 fn take_at(
     actions: &[GroundAction<'_>],
     place: usize,
+    seen: &mut Vec<Seen>,
     progress: &mut Progress,
 ) -> Result<(), Memory>
     requires size { IsOfSize (length progress.old.may) progress.old }
     requires in_range { All (IsActionInRange (length progress.old.may)) actions.now }
-    ensures { OnOk result (IsTakenAt actions.now place progress.old progress.new) }
+    requires seen { AreSeen (pair_so_far progress.old) actions.now seen.old.items }
+    ensures taken { OnOk result (IsTakenAt actions.now place progress.old progress.new) }
+    ensures seen { OnOk result (AreSeen (pair_so_far progress.new) actions.now seen.new.items) }
 {
     let Some(action) = actions.get(place) else {
         return Ok(());
     };
-    take(action, progress)?;
+    take(action, &mut seen[place], progress)?;
+    Ok(())
+}
+
+/// Takes over what the possible events of all actions add and delete.
+fn take_all(
+    actions: &[GroundAction<'_>],
+    seen: &mut Vec<Seen>,
+    progress: &mut Progress,
+) -> Result<(), Memory>
+    requires size { IsOfSize (length progress.old.may) progress.old }
+    requires in_range { All (IsActionInRange (length progress.old.may)) actions.now }
+    requires seen { AreSeen (pair_so_far progress.old) actions.now seen.old.items }
+    ensures taken { OnOk result (AreTaken actions.now progress.old progress.new) }
+    ensures seen { OnOk result (AreSeen (pair_so_far progress.new) actions.now seen.new.items) }
+{
+    for place in 0..actions.len() {
+        take_at(actions, place, seen, progress)?;
+    }
     Ok(())
 }
 
@@ -75,14 +102,17 @@ fn take_at(
 fn take_readers(
     actions: &[GroundAction<'_>],
     readers: &[usize],
+    seen: &mut Vec<Seen>,
     progress: &mut Progress,
 ) -> Result<(), Memory>
     requires size { IsOfSize (length progress.old.may) progress.old }
     requires in_range { All (IsActionInRange (length progress.old.may)) actions.now }
-    ensures { OnOk result (AreTakenAt actions.now readers.now progress.old progress.new) }
+    requires seen { AreSeen (pair_so_far progress.old) actions.now seen.old.items }
+    ensures taken { OnOk result (AreTakenAt actions.now readers.now progress.old progress.new) }
+    ensures seen { OnOk result (AreSeen (pair_so_far progress.new) actions.now seen.new.items) }
 {
     for reader in readers {
-        take_at(actions, *reader, progress)?;
+        take_at(actions, *reader, seen, progress)?;
     }
     Ok(())
 }
@@ -93,13 +123,14 @@ fn reached(alloc: Global, task: &Task<'_>) -> Result<Progress, Memory>
 {
     let actions = task.actions.as_slice();
     let readers = readers(alloc, task)?;
+    let mut seen = unseen(alloc, actions.len())?;
     let mut progress = begun(alloc, task)?;
-    take_all(actions, &mut progress)?;
+    take_all(actions, &mut seen, &mut progress)?;
     while let Some(atom) = next(&mut progress) {
         let Some(these) = readers.get(atom.0 as usize) else {
             continue;
         };
-        take_readers(actions, these.as_slice(), &mut progress)?;
+        take_readers(actions, these.as_slice(), &mut seen, &mut progress)?;
     }
     Ok(progress)
 }

@@ -1,17 +1,17 @@
 //! What possible events make possible.
 
-ghost use Rattle.std.specs.Prelude.{◌≡◌, ◌<◌, All, length, OnOk};
+ghost use Rattle.std.specs.Prelude.{◌≡◌, ◌<◌, true, All, length, map, IfOk, OnOk, Some};
 ghost use Rattle.stp_cond.specs.Events.{IsEventInRange};
-ghost use Rattle.stp_cond.specs.Formulas.{view};
+ghost use Rattle.stp_cond.specs.Formulas.{formulas_of, view};
 ghost use Rattle.stp_cond.specs.Views.{atoms_of};
 ghost use Rattle.stp_task.specs.Actions.{action_of, happening_of};
-ghost use Rattle.stp_task.specs.Certificates.{possible};
+ghost use Rattle.stp_task.specs.Certificates.{all_may_be, possible};
 ghost use Rattle.stp_task.specs.SoundTask.{IsActionInRange};
-ghost use Rattle.stp_relax.specs.Literals.{pair_in};
-ghost use Rattle.stp_relax.specs.Taken.{IsAdmitted, IsMarked, IsOfSize, IsTaken, IsFinished};
+ghost use Rattle.stp_relax.specs.Seen.{AreMet, IsMetUpTo, IsSeen};
+ghost use Rattle.stp_relax.specs.Taken.{IsAdmitted, IsBegun, IsFinished, IsMarked, IsOfSize, IsTaken, pair_so_far};
 
 use crate::literals::{Literals, may_be};
-use crate::progress::Progress;
+use crate::progress::{Progress, Seen};
 use stp_base::{AtomId, Memory, StateRow};
 use stp_cond::{Cond, Event};
 use stp_task::GroundAction;
@@ -38,9 +38,38 @@ fn mark(
 
 /// Whether a formula is possible as far as is known.
 fn is_possible(cond: &Cond<'_>, progress: &Progress) -> bool
-    ensures { result ≡ possible (pair_in progress.now.may progress.now.always) (view cond.now) }
+    ensures { result ≡ possible (pair_so_far progress.now) (view cond.now) }
 {
     may_be(cond, &Literals::Rows(&progress.may, &progress.always), true)
+}
+
+/// Whether all of these are possible as far as is known. The first are known to be, and no fewer are afterwards.
+fn are_possible(parts: &[Cond<'_>], met: &mut usize, progress: &Progress) -> bool
+    requires { AreMet (pair_so_far progress.now) met.old parts.now }
+    ensures all { result ≡ all_may_be (pair_so_far progress.now) true (formulas_of (map view parts.now)) }
+    ensures met { AreMet (pair_so_far progress.now) met.new parts.now }
+{
+    while let Some(part) = parts.get(*met) {
+        if !is_possible(part, progress) {
+            return false;
+        }
+        *met += 1;
+    }
+    true
+}
+
+/// Whether a condition is possible as far as is known. No member of a conjunction is judged again once it is possible.
+fn is_met(cond: &Cond<'_>, met: &mut usize, progress: &Progress) -> bool
+    requires { IsMetUpTo (pair_so_far progress.now) met.old cond.now }
+    ensures possible { result ≡ possible (pair_so_far progress.now) (view cond.now) }
+    ensures met { IsMetUpTo (pair_so_far progress.now) met.new cond.now }
+{
+    match cond {
+        Cond::And(parts) => are_possible(parts, met, progress),
+        Cond::True | Cond::False | Cond::Atom(_) | Cond::Not(_) | Cond::Or(_) => {
+            is_possible(cond, progress)
+        }
+    }
 }
 
 /// Takes over what an event adds and deletes.
@@ -53,35 +82,74 @@ pub(crate) fn admit(event: &Event<'_>, progress: &mut Progress) -> Result<(), Me
     mark(&mut progress.always, event.dels, false, &mut progress.noted)
 }
 
-/// Takes over what the end of an action adds and deletes, if it is possible, where the start is.
+/// Takes over what the start of an action adds and deletes, once, where it is possible, and says whether it is.
+fn take_start(
+    action: &GroundAction<'_>,
+    seen: &mut Seen,
+    progress: &mut Progress,
+) -> Result<bool, Memory>
+    requires size { IsOfSize (length progress.old.may) progress.old }
+    requires in_range { IsEventInRange (length progress.old.may) action.now.start }
+    requires seen { IsSeen (pair_so_far progress.old) action.now seen.old }
+    ensures possible { IfOk result (λ r. r ≡ possible (pair_so_far progress.old) (view action.now.start.cond.now)) }
+    ensures taken { OnOk result (IsBegun (happening_of action.now.start) progress.old progress.new) }
+    ensures seen { OnOk result (IsSeen (pair_so_far progress.new) action.now seen.new) }
+{
+    if seen.has_begun {
+        return Ok(true);
+    }
+    if !is_met(action.start.cond, &mut seen.start, progress) {
+        return Ok(false);
+    }
+    admit(&action.start, progress)?;
+    seen.has_begun = true;
+    Ok(true)
+}
+
+/// Takes over what the end of an action adds and deletes, once, if it is possible, where the start is.
 fn take_end(
     action: &GroundAction<'_>,
     finish: &Event<'_>,
+    seen: &mut Seen,
     progress: &mut Progress,
 ) -> Result<(), Memory>
     requires size { IsOfSize (length progress.old.may) progress.old }
     requires in_range { IsEventInRange (length progress.old.may) finish.now }
-    ensures { OnOk result (IsFinished (view action.now.over.now) (happening_of finish.now) progress.old progress.new) }
+    requires finish { action.now.finish ≡ Some finish.now }
+    requires seen { IsSeen (pair_so_far progress.old) action.now seen.old }
+    ensures taken { OnOk result (IsFinished (view action.now.over.now) (happening_of finish.now) progress.old progress.new) }
+    ensures seen { OnOk result (IsSeen (pair_so_far progress.new) action.now seen.new) }
 {
-    if is_possible(action.over, progress) && is_possible(finish.cond, progress) {
+    if seen.has_ended {
+        return Ok(());
+    }
+    if is_met(action.over, &mut seen.over, progress)
+        && is_met(finish.cond, &mut seen.finish, progress)
+    {
         admit(finish, progress)?;
+        seen.has_ended = true;
     }
     Ok(())
 }
 
 /// Takes over what the possible events of an action add and delete.
-pub(crate) fn take(action: &GroundAction<'_>, progress: &mut Progress) -> Result<(), Memory>
+pub(crate) fn take(
+    action: &GroundAction<'_>,
+    seen: &mut Seen,
+    progress: &mut Progress,
+) -> Result<(), Memory>
     requires size { IsOfSize (length progress.old.may) progress.old }
     requires in_range { IsActionInRange (length progress.old.may) action.now }
-    ensures { OnOk result (IsTaken (action_of action.now) progress.old progress.new) }
+    requires seen { IsSeen (pair_so_far progress.old) action.now seen.old }
+    ensures taken { OnOk result (IsTaken (action_of action.now) progress.old progress.new) }
+    ensures seen { OnOk result (IsSeen (pair_so_far progress.new) action.now seen.new) }
 {
-    if !is_possible(action.start.cond, progress) {
+    if !take_start(action, seen, progress)? {
         return Ok(());
     }
-    admit(&action.start, progress)?;
     let Some(finish) = action.finish else {
         return Ok(());
     };
-    take_end(action, &finish, progress)?;
+    take_end(action, &finish, seen, progress)?;
     Ok(())
 }

@@ -3,9 +3,12 @@ use Rattle.stp_task.specs.Actions.{action_of}
 use Rattle.stp_task.specs.SoundTask.{IsActionInRange}
 use Rattle.stp_relax.specs.Taken.{Allows, pair_so_far}
 use Rattle.stp_relax.proofs.Growing.{allows_grow, within_itself}
-use Rattle.stp_relax.proofs.Takes.{grown_more}
+use Rattle.stp_relax.proofs.Takes.{grown_more, size_kept}
 use Rattle.stp_relax.proofs.Seeing.{one_more_place}
 use Rattle.stp_relax.proofs.reaching.take_readers.Goals as goal
+
+pub take_at-requires-clause-size : goal.take_at-requires-clause-size
+take_at-requires-clause-size c = size_kept c.args.progress.now c.loop-reader.progress c.requires.size c.loop-reader.invariant.grown
 
 pub take_at-requires-clause-in_range : goal.take_at-requires-clause-in_range
 take_at-requires-clause-in_range c =
@@ -20,7 +23,7 @@ loop-reader-preserved c =
     let r = c.loop-reader.progress in
     let s = c.take_at.new.progress in
     let so_far = c.loop-reader.invariant in
-    let new = c.in_ok-take_at.ensures in
+    let new = c.in_ok-take_at.ensures.taken in
     record {
       grown = grown_more q r s so_far.grown new.grown;
       allows = λ j d h l.
@@ -31,4 +34,5 @@ loop-reader-preserved c =
                 (subst (λ k. Allows (pair_so_far r) (pair_so_far s) (action_of (get_or c.args.actions.now k d))) e (new.allows d (subst (λ k. k < length c.args.actions.now) (sym e) l)))
           ];
       least = λ other w all. new.least other (so_far.least other w all) all;
+      seen = c.in_ok-take_at.ensures.seen;
     }
