@@ -1,20 +1,14 @@
 -- What has to hold inside the steps of a box of owners in an arena.
-use Rattle.std.proofs.Common.{◌≡◌, ℕ, Bool, true, List, ap₂, sym, subst}
+use Rattle.std.proofs.Common.{◌≡◌, ℕ, Bool, List, ap₂, sym, subst}
 use Rattle.stp_cond.specs.declared.cond.Cond.TheVariants.{True}
 use Rattle.stp_cond.specs.Truth.{meaning_of, state_of_row}
-use Rattle.stp_happen.specs.LeastFailure.{IsFailure}
-use Rattle.stp_happen.specs.OwnedViews.{plain_owned}
 use Rattle.stp_happen.specs.OwnerViews.{plain_owners}
 use Rattle.stp_window.specs.Boxed.{windows_in}
 use Rattle.stp_window.specs.OwnerWindows.{points_of_owners, open_spans_of_owners}
 use Rattle.stp_window.specs.Views.{points_of, spans_of}
 use Rattle.stp_window.specs.Windows.{Point, OpenSpan, WindowBox, IsProper}
 use Rattle.stp_window.proofs.WellMade.{boxes_have_proper_windows}
-use Rattle.stp_strength.specs.Choices.{corner}
-use Rattle.stp_strength.specs.Failures.{NotKept, all_calm}
-use Rattle.stp_strength.specs.Vectors.{vector_of}
-use Rattle.stp_strength.proofs.BoxLaws.{box_gaps_fail}
-use Rattle.stp_check.specs.Late.{box_inside, is_on_time, IsKept, IsBroken}
+use Rattle.stp_check.specs.Late.{box_inside, IsKept, IsBroken}
 use Rattle.stp_happen.specs.declared.owners.OwnedBox.{OwnedBox}
 use Rattle.stp_window.specs.declared.windows.Window.{Window}
 use Rattle.stp_window.specs.declared.windows.Lasting.{Lasting}
@@ -45,12 +39,8 @@ pub kept_in_boxes : (boxed : OwnedBox) (windows : List Window) (spans : List Las
 kept_in_boxes boxed windows spans are kept = subst IsKept (same_box boxed windows spans are) kept
 
 -- and late steps that break it by these windows break it in the box
-pub broken_in_boxes : (boxed : OwnedBox) (windows : List Window) (spans : List Lasting) (late : List ℕ) → AreOfBox boxed windows spans → IsBroken (box_inside windows spans boxed.initial) late → IsBroken (windows_in boxed) late
-broken_in_boxes boxed windows spans late are broken =
-    let found = subst (λ b. IsBroken b late) (same_box boxed windows spans are) broken in
-    let r = found.2 in
-    (found.0, found.1, record { there = r.there; from = r.from; to = r.to; own = r.own; fails = r.fails; few = r.few })
-
--- a box fails where steps that break what has to hold inside some step end late, and all others as soon as they may
-pub late_steps_fail : (boxed : OwnedBox) (late : List ℕ) → all_calm (windows_in boxed) ≡ true → IsBroken (windows_in boxed) late → IsFailure (plain_owned boxed) (vector_of (plain_owned boxed) (corner (is_on_time late)))
-late_steps_fail boxed late calm broken = let r = broken.2 in box_gaps_fail boxed (NotKept broken.0 broken.1 (is_on_time late) r.there calm r.from r.to r.own r.fails)
+pub broken_in_boxes : (boxed : OwnedBox) (windows : List Window) (spans : List Lasting) (time : ℕ) (late : List ℕ) → AreOfBox boxed windows spans → IsBroken (box_inside windows spans boxed.initial) time late → IsBroken (windows_in boxed) time late
+broken_in_boxes boxed windows spans time late are broken =
+    let found = subst (λ b. IsBroken b time late) (same_box boxed windows spans are) broken in
+    let r = found.1 in
+    (found.0, record { there = r.there; from = r.from; to = r.to; own = r.own; fails = r.fails; few = r.few })

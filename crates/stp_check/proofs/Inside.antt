@@ -85,7 +85,7 @@ others_are b s t unsettled are = ap (without_step s.end.step) are
 pub member_answered : (b : WindowBox) (h : OverAll) (t : ℕ) (row : List Bool) (unsettled begins : List Window) → IsSeenAt b t row (points_of unsettled) (points_of begins) → Contains b.spans (span_of h.lasting) → h.lasting.owner.start ≤ t → t < h.lasting.owner.high →
     (c : Cond) → Contains h.members c → (r : Option (List StepId)) →
     MatchOption r (IsAlways c true (without_step h.lasting.owner.number (points_of unsettled)) (state_of_row row)) (λ late. IsLateWithout c h.lasting.owner.number (without_step h.lasting.owner.number (points_of unsettled)) (state_of_row row) (numbers_of late)) →
-    MatchOption r (IsJudged b (span_of h.lasting) t c) (λ late. IsBroken b (numbers_of late))
+    MatchOption r (IsJudged b (span_of h.lasting) t c) (λ late. IsBroken b t (numbers_of late))
 member_answered b h t row unsettled begins seen there from to c i None always =
     let at_row = seen.view.at_row in
     λ moment. kept_where_always b at_row.proper at_row.calm (span_of h.lasting) there t (state_of_row row) at_row.is_certain c (subst (λ ps. IsAlways c true ps (state_of_row row)) (others_are b (span_of h.lasting) t unsettled seen.view.are_unsettled) always)

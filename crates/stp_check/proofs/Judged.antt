@@ -1,5 +1,5 @@
 -- Verdicts on boxes in an arena.
-use Rattle.std.proofs.Common.{◌≡◌, ◌↔◌, ℕ, true, false, List, [], ◌∷◌, Option, Some, None, MatchOption, is_some, true≢false, refl, ap, sym, ◌∙◌, subst}
+use Rattle.std.proofs.Common.{◌≡◌, ◌↔◌, ℕ, ◌+◌, true, false, List, [], ◌∷◌, Option, Some, None, MatchOption, is_some, true≢false, refl, sym, subst}
 use Rattle.stp_happen.specs.declared.owners.OwnedBox.{OwnedBox}
 use Rattle.stp_happen.specs.Boxes.{IsStrong, IsVector, PlainBox}
 use Rattle.stp_happen.specs.LeastFailure.{IsFailure}
@@ -11,12 +11,12 @@ use Rattle.stp_strength.specs.Failures.{all_calm, all_pairs_pass, stay_apart}
 use Rattle.stp_strength.specs.Vectors.{vector_of}
 use Rattle.stp_strength.proofs.BoxGaps.{failures_mean_weakness}
 use Rattle.stp_strength.proofs.Durations.{durations_of_choice}
-use Rattle.stp_check.specs.Choices.{late, near_to, moment_of}
+use Rattle.stp_check.specs.Choices.{near_to, moment_of}
 use Rattle.stp_check.specs.Late.{IsBroken, IsKept, box_inside}
 use Rattle.stp_check.specs.Pairs.{AreNotApart, AreNotCalm}
 use Rattle.stp_check.specs.Verdicts.{IsVerdictOn, ExecutesEarliest}
-use Rattle.stp_check.proofs.InBoxes.{AreOfBox, broken_in_boxes, late_steps_fail}
-use Rattle.stp_check.proofs.Missing.{late_is_corner, overlap_fails, meeting_fails, strong_if_kept}
+use Rattle.stp_check.proofs.InBoxes.{AreOfBox, broken_in_boxes}
+use Rattle.stp_check.proofs.Missing.{broken_fails, overlap_fails, meeting_fails, strong_if_kept}
 use Rattle.stp_check.proofs.Timing.{moment_is_choice}
 use Rattle.stp_window.specs.declared.windows.Window.{Window}
 use Rattle.stp_window.specs.declared.windows.Lasting.{Lasting}
@@ -32,10 +32,9 @@ choice_is_vector boxed choice ds e =
 -- ---- what has to hold inside
 
 pub broken_box_fails : (boxed : OwnedBox) (windows : List Window) (spans : List Lasting) → AreOfBox boxed windows spans → all_calm (windows_in boxed) ≡ true →
-    (steps : List ℕ) → IsBroken (box_inside windows spans boxed.initial) steps → (ds : List ℕ) → ds ≡ vector_of (plain_owned boxed) (late steps) → IsFailure (plain_owned boxed) ds
-broken_box_fails boxed windows spans are calm steps broken ds is =
-    subst (IsFailure (plain_owned boxed)) (sym (is ∙ ap (vector_of (plain_owned boxed)) (late_is_corner steps)))
-    (late_steps_fail boxed steps calm (broken_in_boxes boxed windows spans steps are broken))
+    (time : ℕ) (steps : List ℕ) → IsBroken (box_inside windows spans boxed.initial) time steps → (ds : List ℕ) → ds ≡ vector_of (plain_owned boxed) (near_to steps (time + 1)) → IsFailure (plain_owned boxed) ds
+broken_box_fails boxed windows spans are calm time steps broken ds is =
+    subst (IsFailure (plain_owned boxed)) (sym is) (broken_fails (plain_owned boxed) (boxes_are_well_made boxed) calm time steps (broken_in_boxes boxed windows spans time steps are broken))
 
 -- ---- two steps
 

@@ -1,6 +1,5 @@
 -- Boxes fail at chosen durations where a static fact is missing, and are strong where none is.
-use Rattle.std.proofs.Common.{◌≡◌, ℕ, ◌<◌, ◌≤◌, ◌==◌, nat_lt, nat_le, Bool, true, false, not, ◌&&◌, ◌||◌, cond, max, List, [], ◌∷◌, All, Contains, ◌⊎◌, inl, inr, refl, ap, sym, ◌∙◌, subst, arith, true≢false}
-use mathlib.Core.Path.{fun_ext}
+use Rattle.std.proofs.Common.{◌≡◌, ℕ, ◌+◌, ◌<◌, ◌≤◌, ◌==◌, nat_lt, nat_le, Bool, true, false, not, ◌&&◌, ◌||◌, cond, max, min, List, [], ◌∷◌, All, Contains, ◌⊎◌, inl, inr, refl, ap, sym, ◌∙◌, subst, arith, true≢false}
 use Rattle.std.proofs.lemmas.Bool.Decides.{nat_tests}
 use Rattle.stp_cond.specs.Atoms.{has}
 use Rattle.stp_happen.specs.Boxes.{PlainBox, IsStrong}
@@ -8,11 +7,11 @@ use Rattle.stp_happen.specs.LeastFailure.{IsFailure}
 use Rattle.stp_happen.specs.Plain.{Executes, AreCalm, AreApart, IsFed}
 use Rattle.stp_happen.proofs.Members.{each_of, all_of, all_pairs, of_mapped, of_mapped_pairs}
 use Rattle.stp_window.specs.OwnerWindows.{AreWellMade, windows_of}
-use Rattle.stp_window.specs.States.{at_last}
+use Rattle.stp_window.specs.States.{at_last, came_by, state_at}
 use Rattle.stp_window.specs.Windows.{Point, OpenSpan, WindowBox, Meet, run_when, entry_at, span_at, IsInWindow, IsChoice, IsProper}
 use Rattle.stp_window.proofs.LastWay.{ordered, started}
 use Rattle.stp_window.proofs.Proper.{windows_proper}
-use Rattle.stp_strength.specs.Choices.{corner, nearest}
+use Rattle.stp_strength.specs.Choices.{nearest}
 use Rattle.stp_strength.specs.Facts.{StayApart, StayCalm, IsFedAlways}
 use Rattle.stp_strength.specs.Failures.{all_calm, all_pairs_pass, of_steps, stay_apart, stay_calm}
 use Rattle.stp_strength.specs.Vectors.{vector_of}
@@ -20,12 +19,13 @@ use Rattle.stp_strength.proofs.Apart.{AreCalm as AreCalmPoints}
 use Rattle.stp_strength.proofs.Certainty.{before_is_certain, end_is_last}
 use Rattle.stp_strength.proofs.Durations.{durations_of_choice}
 use Rattle.stp_strength.proofs.Gaps.{apart_told, calm_test, calm_facts, each_pair_passes}
+use Rattle.stp_strength.proofs.Sound.{kept_in_run}
 use Rattle.stp_strength.proofs.Strong.{strong_exactly_where_sound}
-use Rattle.stp_check.specs.Choices.{late, near_to}
-use Rattle.stp_check.specs.Late.{IsKept, is_on_time}
+use Rattle.stp_check.specs.Choices.{near_to}
+use Rattle.stp_check.specs.Late.{IsKept, IsBroken, is_on_time}
 use Rattle.stp_check.specs.Pairs.{AreNotApart, AreNotCalm}
 use Rattle.stp_check.specs.Verdicts.{ExecutesEarliest}
-use Rattle.stp_check.proofs.Timing.{late_is_choice, near_to_is_choice}
+use Rattle.stp_check.proofs.Timing.{near_to_is_choice}
 
 missing : (b : Bool) → b ≡ true → b ≡ false → ⊥
 missing b t f = true≢false (sym t ∙ f)
@@ -139,12 +139,36 @@ meeting_fails box w one other time found =
 
 -- ---- what has to hold inside
 
-pub late_is_corner : (steps : List ℕ) → late steps ≡ corner (is_on_time steps)
-late_is_corner steps = fun_ext (λ p. by_test (of_steps steps p) p.low p.high)
+-- where these steps end after a moment, there have come by then all that are on time or have no later moment
+came_after : (steps : List ℕ) (t : ℕ) (p : Point) → p.low ≤ p.high → nat_le (near_to steps (t + 1) p) t ≡ came_by t (is_on_time steps) p
+came_after steps t p l = by_test (of_steps steps p) p.low p.high t l
   where
-    by_test : (b : Bool) (m n : ℕ) → cond b n m ≡ cond (not b) m n
-    by_test true m n = refl
-    by_test false m n = refl
+    by_test : (b : Bool) (m n t : ℕ) → m ≤ n → nat_le (cond b (max m (min n (t + 1))) m) t ≡ (nat_le n t || (not b && nat_le m t))
+    by_test true m n t l = past m n t (max m (min n (t + 1))) l (omega arith) (omega arith) (omega arith)
+      where
+        past : (m n t x : ℕ) → m ≤ n → (t < n → t < x) → x ≤ n → (n ≤ t → x ≤ t) → nat_le x t ≡ (nat_le n t || false)
+        past m n t x l a b c = grind (arith, nat_tests)
+    by_test false m n t l = grind (arith, nat_tests)
+
+-- an end that is not on time comes after the moment
+ends_after : (steps : List ℕ) (t : ℕ) (p : Point) → is_on_time steps p ≡ false → t < p.high → t < near_to steps (t + 1) p
+ends_after steps t p h l = by_test (of_steps steps p) p.low p.high t h l
+  where
+    by_test : (b : Bool) (m n t : ℕ) → not b ≡ false → t < n → t < cond b (max m (min n (t + 1))) m
+    by_test true m n t h l = omega arith
+    by_test false m n t h l = absurd (true≢false h)
+
+pub broken_fails : (box : PlainBox) → AreWellMade box.owners → all_calm (windows_of box) ≡ true → (time : ℕ) (steps : List ℕ) → IsBroken (windows_of box) time steps → IsFailure box (vector_of box (near_to steps (time + 1)))
+broken_fails box w calm time steps (s, broken) =
+    let b = windows_of box in
+    let proper = windows_proper box w in
+    let v = near_to steps (time + 1) in
+    let choice = near_to_is_choice b proper steps (time + 1) in
+    fails_when box w v choice (λ x.
+    missing (s.over (state_at b time (is_on_time steps)))
+    (kept_in_run b proper (calm_facts b calm) v choice s broken.there time (is_on_time steps) broken.from (ends_after steps time s.end broken.own broken.to)
+    (λ p i. came_after steps time p (ordered b proper p i)) x)
+    broken.fails)
 
 -- ---- where nothing is missing
 
@@ -159,12 +183,12 @@ strong_if_kept box w runs apart calm kept =
     let b = windows_of box in
     let proper = windows_proper box w in
     let facts = calm_facts b calm in
-    let choice = late_is_choice b proper [] in
-    let x : Executes (run_when b (late [])) = subst Executes (durations_of_choice box w (late []) choice).same runs in
+    let choice = near_to_is_choice b proper [] 0 in
+    let x : Executes (run_when b (near_to [] 0)) = subst Executes (durations_of_choice box w (near_to [] 0) choice).same runs in
     (strong_exactly_where_sound box w).1 (record {
       apart = all_pairs StayApart b.spans b.spans (λ s o i j. apart_told s o (each_pair_passes stay_apart b.spans apart s o i j));
       calm = facts;
-      fed = fed_if_runs b proper facts (late []) choice x;
+      fed = fed_if_runs b proper facts (near_to [] 0) choice x;
       kept = kept;
-      reached = reached_if_runs b proper facts (late []) choice x;
+      reached = reached_if_runs b proper facts (near_to [] 0) choice x;
     })

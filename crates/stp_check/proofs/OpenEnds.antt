@@ -124,7 +124,7 @@ few_late b s t steps m i = elim (member_cases s.end.step (filter (λ n. not (has
 ]
 
 pub broken_where_fails : (b : WindowBox) → IsProper b → all_calm b ≡ true → (s : OpenSpan) → Contains b.spans s → (t : ℕ) → s.from ≤ t → t < s.end.high → (state : ℕ → Bool) → ((a : ℕ) → state a ≡ certain b t a) →
-    (c : Cond) → ((any : ℕ → Bool) → truth any c ≡ false → s.over any ≡ false) → (late : List ℕ) → IsLateWithout c s.end.step (other_ends b s t) state late → IsBroken b late
+    (c : Cond) → ((any : ℕ → Bool) → truth any c ≡ false → s.over any ≡ false) → (late : List ℕ) → IsLateWithout c s.end.step (other_ends b s t) state late → IsBroken b t late
 broken_where_fails b proper calm s there t from to state is c member late found =
     let ends = other_ends b s t in
     let steps = found.0 in
@@ -143,7 +143,7 @@ broken_where_fails b proper calm s there t from to state is c member late found 
           ∙ found.1.fails);
       few = all_of (λ m. (m ≡ s.end.step) ⊎ IsUnsettledStep b t m) (late_with s.end.step ends steps) (few_late b s t steps);
     } in
-    subst (IsBroken b) (sym found.2) (s, t, broken)
+    subst (IsBroken b t) (sym found.2) (s, broken)
 
 -- ---- few moments suffice
 

@@ -17,20 +17,17 @@ use Rattle.stp_strength.specs.Choices.{nearest}
 use Rattle.stp_strength.specs.Failures.{of_steps}
 use Rattle.stp_strength.specs.Vectors.{vector_from}
 use Rattle.stp_strength.proofs.Sound.{near_window}
-use Rattle.stp_check.specs.Choices.{late, near_to, moment_of, GoesUp}
+use Rattle.stp_check.specs.Choices.{near_to, moment_of, GoesUp}
 use Rattle.stp_check.specs.Late.{numbers_of}
 use Rattle.stp_happen.specs.declared.owners.Owner.{Owner}
 use Rattle.stp_happen.specs.declared.owners.OwnedBox.{OwnedBox}
 use Rattle.stp_check.specs.declared.choices.Choice.{Choice}
-use Rattle.stp_check.specs.declared.choices.Choice.TheVariants.{Late, Near}
+use Rattle.stp_check.specs.declared.choices.Choice.TheVariants.{After, Near}
 
 -- ---- whether a step is among these
 
 among_is_has : (steps : List StepId) (n : ℕ) → list_any (λ s. s.0 == n) steps ≡ has (numbers_of steps) n
 among_is_has steps n = sym (any_alike (λ (s : StepId). s.0) (λ m. m == n) (λ s. s.0 == n) steps (λ s i. refl))
-
-pub at_late : (steps : List StepId) (p : Point) (b : Bool) → b ≡ list_any (λ s. s.0 == p.step) steps → cond b p.high p.low ≡ late (numbers_of steps) p
-at_late steps p b e = ap (λ x. cond x p.high p.low) (e ∙ among_is_has steps p.step)
 
 pub at_near : (steps : List StepId) (t : ℕ) (p : Point) (b : Bool) → b ≡ list_any (λ s. s.0 == p.step) steps → cond b (nearest t p) p.low ≡ near_to (numbers_of steps) t p
 at_near steps t p b e = ap (λ x. cond x (nearest t p) p.low) (e ∙ among_is_has steps p.step)
@@ -57,13 +54,6 @@ box_goes_up boxed = all_of GoesUp boxed.owners (λ o i. let m = of_mapped plain_
 
 -- ---- each choice is one of the windows
 
-late_window : (steps : List ℕ) (p : Point) → p.low ≤ p.high → IsInWindow (late steps) p
-late_window steps p l = by_test (of_steps steps p) p.low p.high l
-  where
-    by_test : (b : Bool) (m n : ℕ) → m ≤ n → (m ≤ cond b n m) × (cond b n m ≤ n)
-    by_test true m n l = (l, omega arith)
-    by_test false m n l = (omega arith, l)
-
 near_to_window : (steps : List ℕ) (t : ℕ) (p : Point) → p.low ≤ p.high → IsInWindow (near_to steps t) p
 near_to_window steps t p l = by_test (of_steps steps p) p.low p.high (nearest t p) l (near_window t p l)
   where
@@ -77,12 +67,9 @@ choice_of_windows b proper moment inside = (
   all_of (λ s. IsInWindow moment s.end) b.spans (λ s i. inside s.end (started b proper s i).1),
 )
 
-pub late_is_choice : (b : WindowBox) → IsProper b → (steps : List ℕ) → IsChoice b (late steps)
-late_is_choice b proper steps = choice_of_windows b proper (late steps) (late_window steps)
-
 pub near_to_is_choice : (b : WindowBox) → IsProper b → (steps : List ℕ) (t : ℕ) → IsChoice b (near_to steps t)
 near_to_is_choice b proper steps t = choice_of_windows b proper (near_to steps t) (near_to_window steps t)
 
 pub moment_is_choice : (b : WindowBox) → IsProper b → (choice : Choice) → IsChoice b (moment_of choice)
-moment_is_choice b proper (Late steps) = late_is_choice b proper (numbers_of steps.now)
+moment_is_choice b proper (After steps t) = near_to_is_choice b proper (numbers_of steps.now) (t + 1)
 moment_is_choice b proper (Near steps t) = near_to_is_choice b proper (numbers_of steps.now) t

@@ -53,6 +53,6 @@ pub record IsBrokenAt (b : WindowBox) (late : List ℕ) (s : OpenSpan) (t : ℕ)
   pub fails : s.over (state_at b t (is_on_time late)) ≡ false
   pub few : All (λ n. (n ≡ s.end.step) ⊎ IsUnsettledStep b t n) late
 
--- where these steps end late, and all others as soon as they may, what has to hold inside some step does not hold
-abbrev pub IsBroken : WindowBox → List ℕ → Type 0
-IsBroken b late = (s : OpenSpan) × (t : ℕ) × IsBrokenAt b late s t
+-- where these steps end after a moment, and all others as soon as they may, what has to hold inside some step does not hold then
+abbrev pub IsBroken : WindowBox → ℕ → List ℕ → Type 0
+IsBroken b t late = (s : OpenSpan) × IsBrokenAt b late s t

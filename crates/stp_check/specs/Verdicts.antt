@@ -4,7 +4,7 @@ use Rattle.stp_happen.specs.Boxes.{PlainBox, IsStrong, run_under}
 use Rattle.stp_happen.specs.LeastFailure.{IsFailure}
 use Rattle.stp_happen.specs.Plain.{Executes}
 use Rattle.stp_strength.specs.Vectors.{vector_of}
-use Rattle.stp_check.specs.Choices.{late}
+use Rattle.stp_check.specs.Choices.{near_to}
 use Rattle.stp_check.specs.declared.verdicts.Verdict.{Verdict}
 use Rattle.stp_check.specs.declared.verdicts.Verdict.TheVariants.{Strong, Weak}
 
@@ -15,4 +15,4 @@ IsVerdictOn box (Weak durations) = IsFailure box durations
 
 -- the box executes where each step ends as soon as it can
 abbrev pub ExecutesEarliest : PlainBox → Type 0
-ExecutesEarliest box = Executes (run_under box (vector_of box (late [])))
+ExecutesEarliest box = Executes (run_under box (vector_of box (near_to [] 0)))

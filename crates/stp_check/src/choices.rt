@@ -1,13 +1,13 @@
-//! Durations of a box at which some steps end late, or near to a moment, and the others as soon as they can.
+//! Durations of a box at which some steps end after a moment, or near to it, and the others as soon as they can.
 
-ghost use Rattle.std.specs.Prelude.{◌≡◌, ◌≤◌, ◌++◌, ◌∷◌, [], ◌==◌, max, min, All, IfOk, OnOk};
+ghost use Rattle.std.specs.Prelude.{◌≡◌, ◌+◌, ◌≤◌, ◌++◌, ◌∷◌, [], ◌==◌, max, min, All, IfOk, OnOk};
 ghost use Rattle.std.specs.List.{list_any};
 ghost use Rattle.stp_happen.specs.Boxes.{IsVector};
 ghost use Rattle.stp_happen.specs.OwnedViews.{plain_owned};
 ghost use Rattle.stp_happen.specs.OwnerViews.{plain_owner, plain_owners};
 ghost use Rattle.stp_window.specs.OwnerWindows.{end_point};
 ghost use Rattle.stp_strength.specs.Vectors.{vector_from, vector_of};
-ghost use Rattle.stp_check.specs.Choices.{late, near_to, moment_of, GoesUp};
+ghost use Rattle.stp_check.specs.Choices.{near_to, moment_of, GoesUp};
 ghost use Rattle.stp_check.specs.Late.{numbers_of};
 
 use std::alloc::Global;
@@ -17,9 +17,9 @@ use stp_happen::{OwnedBox, Owner};
 /// When the uncertain steps end.
 #[derive(Clone, Copy)]
 pub enum Choice<'c> {
-    /// These as late as they can, and the others as soon.
-    Late(&'c [StepId]),
-    /// These as near to a moment as they can, and the others as soon.
+    /// These as soon as they can after a moment, or as late as they can, and the others as soon as they can.
+    After(&'c [StepId], u128),
+    /// These as near to a moment as they can, and the others as soon as they can.
     Near(&'c [StepId], u128),
 }
 
@@ -37,14 +37,24 @@ fn near(low: u128, high: u128, time: u128) -> u128
     low.max(high.min(time))
 }
 
-/// When an owner ends that is as late as it can be if it is among these, and else as soon.
-fn late_end(steps: &[StepId], owner: &Owner<'_>) -> u128
-    requires { owner.now.low ≤ owner.now.high }
-    ensures moment { result ≡ late (numbers_of steps.now) (end_point (plain_owner owner.now)) }
+/// The first moment of a window after a time, or the window's end if it has none.
+fn after(low: u128, high: u128, time: u128) -> u128
+    ensures { result ≡ max low (min high (time + 1)) }
+{
+    if time < high {
+        low.max(time + 1)
+    } else {
+        low.max(high)
+    }
+}
+
+/// When an owner ends that ends as soon as it can after a moment if it is among these, and else as soon as it can.
+fn end_after(steps: &[StepId], time: u128, owner: &Owner<'_>) -> u128
+    ensures moment { result ≡ near_to (numbers_of steps.now) (time + 1) (end_point (plain_owner owner.now)) }
     ensures within { owner.now.low ≤ result }
 {
     if is_among(steps, owner.number) {
-        owner.high
+        after(owner.low, owner.high, time)
     } else {
         owner.low
     }
@@ -64,12 +74,11 @@ fn near_end(steps: &[StepId], time: u128, owner: &Owner<'_>) -> u128
 
 /// When an owner ends.
 fn end_at(choice: Choice<'_>, owner: &Owner<'_>) -> u128
-    requires { owner.now.low ≤ owner.now.high }
     ensures moment { result ≡ moment_of choice.entry (end_point (plain_owner owner.now)) }
     ensures within { owner.now.low ≤ result }
 {
     match choice {
-        Choice::Late(steps) => late_end(steps, owner),
+        Choice::After(steps, time) => end_after(steps, time, owner),
         Choice::Near(steps, time) => near_end(steps, time, owner),
     }
 }

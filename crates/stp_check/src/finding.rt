@@ -32,7 +32,7 @@ fn late_among(
     requires steps { All (λ h. is_below (length row.now) h.lasting.inside.over.now ≡ true) over_alls.now }
     requires cases { AreCases (filter (is_unsettled time) (points_of windows.now)) }
     ensures { (initial : Sequence Bool) → let b = box_inside windows.now (map (λ h. h.lasting) over_alls.now) initial in
-        IsRowAt b time row.now → IfOk result (λ r. MatchOption r (All (AreJudged b time) over_alls.now) (λ late. IsBroken b (numbers_of late))) }
+        IsRowAt b time row.now → IfOk result (λ r. MatchOption r (All (AreJudged b time) over_alls.now) (λ late. IsBroken b time (numbers_of late))) }
 {
     let unsettled = unsettled_at(alloc, windows, time)?;
     let begins = beginning_at(alloc, windows, time)?;
@@ -45,8 +45,15 @@ fn late_among(
     Ok(None)
 }
 
-/// Steps whose ends come late, so that what has to hold inside some step does not hold, if there are such
-/// steps; all others then end as soon as they may.
+/// Steps whose ends come after a moment, so that what has to hold inside some step does not hold then.
+#[derive(Drop)]
+pub(crate) struct Broken {
+    pub(crate) late: List<StepId>,
+    pub(crate) time: u128,
+}
+
+/// Steps whose ends come after a moment, so that what has to hold inside some step does not hold then, if there are
+/// such steps; all others end as soon as they may.
 ///
 /// Points that interfere never meet, so that the events may be taken in the order of their windows' ends.
 pub(crate) fn first_broken(
@@ -54,14 +61,14 @@ pub(crate) fn first_broken(
     windows: &[Window<'_>],
     spans: &[Lasting<'_>],
     initial: &StateRow,
-) -> Result<Option<List<StepId>>, Memory>
+) -> Result<Option<Broken>, Memory>
     requires events { All (λ w. IsEventInRange (length initial.now) w.event) windows.now }
     requires spans { All (λ s. is_below (length initial.now) s.inside.over.now ≡ true) spans.now }
     requires calm { all_calm (box_inside windows.now spans.now initial.now) ≡ true }
     requires proper { IsProper (box_inside windows.now spans.now initial.now) }
     ensures { IfOk result (λ r. MatchOption r
         (IsKept (box_inside windows.now spans.now initial.now))
-        (λ late. IsBroken (box_inside windows.now spans.now initial.now) (numbers_of late))) }
+        (λ found. IsBroken (box_inside windows.now spans.now initial.now) found.time (numbers_of found.late))) }
 {
     let over_alls = over_alls_of(alloc, spans)?;
     let ordered = by_ends(alloc, windows)?;
@@ -71,7 +78,7 @@ pub(crate) fn first_broken(
     for time in &moments {
         place = carry(&mut row, &ordered, place, *time);
         if let Some(late) = late_among(alloc, &over_alls, windows, &row, *time)? {
-            return Ok(Some(late));
+            return Ok(Some(Broken { late, time: *time }));
         }
     }
     Ok(None)

@@ -96,7 +96,7 @@ pub(crate) fn late_at(
     requires known { IsKnownRow known.now (points_of unsettled.now) (state_of_row row.now) }
     requires len { length known.now ≡ length row.now }
     ensures { (b : WindowBox) → IsSeenAt b time row.now (points_of unsettled.now) (points_of begins.now) → Contains b.spans (span_of over_all.now.lasting) →
-        IfOk result (λ r. MatchOption r (AreJudged b time over_all.now) (λ late. IsBroken b (numbers_of late))) }
+        IfOk result (λ r. MatchOption r (AreJudged b time over_all.now) (λ late. IsBroken b time (numbers_of late))) }
 {
     let owner = &over_all.lasting.owner;
     if time < owner.start || owner.high <= time {

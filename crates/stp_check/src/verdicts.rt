@@ -51,7 +51,7 @@ pub(crate) fn executes(
 fn failing_earliest(alloc: Global, boxed: &OwnedBox<'_>) -> Result<Option<List<u128>>, Memory>
     ensures { IfOk result (λ r. MatchOption r (ExecutesEarliest (plain_owned boxed.now)) (IsFailure (plain_owned boxed.now))) }
 {
-    let earliest = durations(alloc, boxed, Choice::Late(&[]))?;
+    let earliest = durations(alloc, boxed, Choice::Near(&[], 0))?;
     if executes(alloc, boxed, earliest.as_slice())? {
         return Ok(None);
     }
@@ -112,10 +112,11 @@ fn failing_inside(
         (IsKept (windows_in boxed.now))
         (IsFailure (plain_owned boxed.now))) }
 {
-    let Some(late) = first_broken(alloc, windows, spans, &boxed.initial)? else {
+    let Some(found) = first_broken(alloc, windows, spans, &boxed.initial)? else {
         return Ok(None);
     };
-    let broken = durations(alloc, boxed, Choice::Late(late.as_slice()))?;
+    let after = Choice::After(found.late.as_slice(), found.time);
+    let broken = durations(alloc, boxed, after)?;
     Ok(Some(broken))
 }
 

@@ -6,7 +6,7 @@ use Rattle.stp_cond.specs.Atoms.{interfere}
 use Rattle.stp_happen.specs.Plain.{Executes, AreCalm, IsFed, IsKept, AreApart, after}
 use Rattle.stp_happen.proofs.Members.{each_of, each_pair, all_of, all_pairs, member_map, all_mapped, of_mapped, all_mapped_pairs, of_mapped_pairs}
 use Rattle.stp_window.specs.Windows.{Point, OpenSpan, WindowBox, run_when, entry_at, span_at, IsInWindow, IsChoice, IsProper, IsStarted, Meet}
-use Rattle.stp_window.specs.States.{state_at, at_last}
+use Rattle.stp_window.specs.States.{came_by, state_at, at_last}
 use Rattle.stp_strength.specs.Facts.{StayApart, StayCalm, IsFedAlways, IsKeptAt, lows, IsSound}
 use Rattle.stp_strength.specs.Choices.{latest, corner, nearest}
 use Rattle.stp_strength.specs.WindowLaws.{ExecutesAlways, ExecutesAlwaysExactlyWhereSound, KeptAtEveryMoment}
@@ -123,36 +123,37 @@ pub fed_or_fails : (b : WindowBox) → IsProper b → AreCalmPoints b → Execut
 fed_or_fails b proper calm x p i =
     sym (before_is_certain b proper calm latest (latest_is_choice b proper) p i) ∙ of_mapped (entry_at latest) (IsFed (run_when b latest)) b.points x.fed p i
 
+-- where a run executes, and by a moment these points have come, what has to hold inside a step that lasts past it does
+pub kept_in_run : (b : WindowBox) → IsProper b → AreCalmPoints b → (v : Point → ℕ) → IsChoice b v → (s : OpenSpan) → Contains b.spans s → (t : ℕ) (came : Point → Bool) → s.from ≤ t → t < v s.end →
+    ((p : Point) → Contains b.points p → nat_le (v p) t ≡ came_by t came p) → Executes (run_when b v) → s.over (state_at b t came) ≡ true
+kept_in_run b proper calm v choice s i t came from to these x = by_last b proper calm v choice s i t came from to these x (started b proper s i) (top v (λ p. nat_le (v p) t) b.points)
+  where
+    same_upto : (y u t : ℕ) → u ≤ t → (y ≤ t → y ≤ u) → nat_le y u ≡ nat_le y t
+    same_upto y u t l h = grind (arith, nat_tests)
+
+    by_last : (b : WindowBox) → IsProper b → AreCalmPoints b → (v : Point → ℕ) → IsChoice b v → (s : OpenSpan) → Contains b.spans s → (t : ℕ) (came : Point → Bool) → s.from ≤ t → t < v s.end →
+        ((p : Point) → Contains b.points p → nat_le (v p) t ≡ came_by t came p) → Executes (run_when b v) → IsStarted b.points s →
+        NonePasses (λ p. nat_le (v p) t) b.points ⊎ ((m : Point) × IsTop v (λ p. nat_le (v p) t) b.points m) → s.over (state_at b t came) ≡ true
+    by_last b proper calm v choice s i t came from to these x start (inl none) =
+        let to_start : v start.2.0 ≤ start.2.0.high = (in_window b v choice start.2.0 start.2.1).1 in
+        let high : start.2.0.high ≡ s.from = start.2.3 in
+        absurd (none start.2.0 start.2.1 (le-leb (v start.2.0) t (omega arith)))
+    by_last b proper calm v choice s i t came from to these x start (inr (m, h)) =
+        let w = in_window b v choice start.2.0 start.2.1 in
+        let low : start.2.0.low ≤ v start.2.0 = w.0 in
+        let high : v start.2.0 ≤ start.2.0.high = w.1 in
+        let at_low : start.2.0.low ≡ s.from = start.2.2 in
+        let at_high : start.2.0.high ≡ s.from = start.2.3 in
+        let upto : v m ≤ t = leb-true (v m) t h.passes in
+        let since : s.from ≤ v m = let k : v start.2.0 ≤ v m = h.most start.2.0 start.2.1 (le-leb (v start.2.0) t (omega arith)) in omega arith in
+        ap s.over (sym (after_is_state b proper calm v choice (v m) t came (λ p j. same_upto (v p) (v m) t upto (λ l. h.most p j (le-leb (v p) t l)) ∙ these p j)))
+        ∙ of_mapped_pairs (entry_at v) (span_at v) (IsKept (run_when b v)) b.points b.spans x.kept m s h.there i since (omega arith)
+
 pub kept_or_fails : (b : WindowBox) → IsProper b → AreCalmPoints b → (s : OpenSpan) → Contains b.spans s → (t : ℕ) (chosen : Point → Bool) → Executes (run_when b (corner chosen)) →
     s.from ≤ t → t < s.end.high → chosen s.end ≡ false → s.over (state_at b t chosen) ≡ true
 kept_or_fails b proper calm s i t chosen x from to late =
-    by_last b proper calm s i t chosen x from to late (started b proper s i) (top (corner chosen) (λ p. nat_le (corner chosen p) t) b.points)
-  where
-    at_start : (chosen : Point → Bool) (p : Point) (from : ℕ) → p.low ≡ from → p.high ≡ from → corner chosen p ≡ from
-    at_start chosen p from l h = by_choice p.low p.high from (chosen p) l h
-      where
-        by_choice : (m n from : ℕ) (b : Bool) → m ≡ from → n ≡ from → cond b m n ≡ from
-        by_choice m n from true l h = l
-        by_choice m n from false l h = h
-
-    same_upto : (x u t : ℕ) → u ≤ t → (x ≤ t → x ≤ u) → nat_le x u ≡ nat_le x t
-    same_upto x u t l h = grind (arith, nat_tests)
-
-    by_last : (b : WindowBox) → IsProper b → AreCalmPoints b → (s : OpenSpan) → Contains b.spans s → (t : ℕ) (chosen : Point → Bool) → Executes (run_when b (corner chosen)) →
-        s.from ≤ t → t < s.end.high → chosen s.end ≡ false → IsStarted b.points s →
-        NonePasses (λ p. nat_le (corner chosen p) t) b.points ⊎ ((m : Point) × IsTop (corner chosen) (λ p. nat_le (corner chosen p) t) b.points m) → s.over (state_at b t chosen) ≡ true
-    by_last b proper calm s i t chosen x from to late start (inl none) =
-        let e : corner chosen start.2.0 ≡ s.from = at_start chosen start.2.0 s.from start.2.2 start.2.3 in
-        absurd (none start.2.0 start.2.1 (le-leb (corner chosen start.2.0) t (omega arith)))
-    by_last b proper calm s i t chosen x from to late start (inr (m, h)) =
-        let v = corner chosen in
-        let e : v start.2.0 ≡ s.from = at_start chosen start.2.0 s.from start.2.2 start.2.3 in
-        let upto : v m ≤ t = leb-true (v m) t h.passes in
-        let since : s.from ≤ v m = let k : v start.2.0 ≤ v m = h.most start.2.0 start.2.1 (le-leb (v start.2.0) t (omega arith)) in omega arith in
-        let ends : v s.end ≡ s.end.high = ap (λ c. cond c s.end.low s.end.high) late in
-        ap s.over (sym (after_is_state b proper calm v (corner_is_choice b proper chosen) (v m) t chosen
-        (λ p j. same_upto (v p) (v m) t upto (λ l. h.most p j (le-leb (v p) t l)) ∙ came_in_corner chosen p t (ordered b proper p j))))
-        ∙ of_mapped_pairs (entry_at v) (span_at v) (IsKept (run_when b v)) b.points b.spans x.kept m s h.there i since (omega arith)
+    let ends : corner chosen s.end ≡ s.end.high = ap (λ c. cond c s.end.low s.end.high) late in
+    kept_in_run b proper calm (corner chosen) (corner_is_choice b proper chosen) s i t chosen from (omega arith) (λ p j. came_in_corner chosen p t (ordered b proper p j)) x
 
 pub reached_or_fails : (b : WindowBox) → IsProper b → AreCalmPoints b → Executes (run_when b latest) → b.goal (at_last b) ≡ true
 reached_or_fails b proper calm x = ap b.goal (sym (end_is_last b proper calm latest (latest_is_choice b proper))) ∙ x.reached

@@ -37,8 +37,8 @@ returns-in-Some c =
     let row : IsRowAt (box_inside c.args.windows.now kept c.args.initial.now) (get_or ts i 0) c.carry-place.new.row =
     row_now c.args.windows.now c.in_ok-ordered.ordered.items given c.args.spans.now kept c.args.initial.now c.carry-place.new.row c.loop-time.place c.carry-place.result i ts c.requires.proper c.requires.calm
     c.in_ok-ordered.ensures.same c.in_ok-ordered.ensures.ordered c.deref.ensures.value same (omega arith) c.loop-time.invariant.ended done in
-    subst (λ ss. IsBroken (box_inside c.args.windows.now ss c.args.initial.now) (numbers_of c.in-Some.late)) same
-    (found_some (All (AreJudged (box_inside c.args.windows.now kept c.args.initial.now) (get_or ts i 0)) c.deref-in-loop-time.result.now) (λ late. IsBroken (box_inside c.args.windows.now kept c.args.initial.now) (numbers_of late)) c.in_ok-late.field-0 c.in-Some.late c.in-Some.is
+    subst (λ ss. IsBroken (box_inside c.args.windows.now ss c.args.initial.now) (get_or ts i 0) (numbers_of c.in-Some.late)) same
+    (found_some (All (AreJudged (box_inside c.args.windows.now kept c.args.initial.now) (get_or ts i 0)) c.deref-in-loop-time.result.now) (λ late. IsBroken (box_inside c.args.windows.now kept c.args.initial.now) (get_or ts i 0) (numbers_of late)) c.in_ok-late.field-0 c.in-Some.late c.in-Some.is
     (c.in_ok-late.ensures c.args.initial.now row))
 
 pub loop-time-preserved : goal.loop-time-preserved
@@ -66,7 +66,7 @@ loop-time-preserved c =
       state = subst (λ ws. (a : ℕ) → state_of_row c.carry-place.new.row a ≡ applied (points_of (take c.carry-place.result ws)) (state_of_row c.args.initial.now) a) c.deref.ensures.value done.state;
       judged =
           next_judged c.args.windows.now c.args.spans.now kept c.in_ok-over_alls.over_alls.items c.deref-in-loop-time.result.now c.args.initial.now i ts same c.deref-in-loop-time.ensures.value (omega arith) c.loop-time.invariant.judged
-          (found_none (All (AreJudged (box_inside c.args.windows.now kept c.args.initial.now) (get_or ts i 0)) c.deref-in-loop-time.result.now) (λ late. IsBroken (box_inside c.args.windows.now kept c.args.initial.now) (numbers_of late)) c.in_ok-late.field-0 (search rules)
+          (found_none (All (AreJudged (box_inside c.args.windows.now kept c.args.initial.now) (get_or ts i 0)) c.deref-in-loop-time.result.now) (λ late. IsBroken (box_inside c.args.windows.now kept c.args.initial.now) (get_or ts i 0) (numbers_of late)) c.in_ok-late.field-0 (search rules)
           (c.in_ok-late.ensures c.args.initial.now row));
     }
 

@@ -22,7 +22,7 @@ pub returns-in-Some : goal.returns-in-Some
 returns-in-Some c = λ initial at_row.
     let b = box_inside c.args.windows.now (lasting_in c.args.over_alls.now) initial in
     let seen = seen_at b c.args.time c.args.row.now c.args.windows.now c.deref-in-loop-one.result.now c.deref-in-loop-one-2.result.now refl (c.deref-in-loop-one.ensures.value ∙ c.in_ok-unsettled.ensures) (c.deref-in-loop-one-2.ensures.value ∙ c.in_ok-begins.ensures) at_row in
-    found_some (AreJudged b c.args.time c.one-item.result) (λ late. IsBroken b (numbers_of late)) c.in_ok-late.field-0 c.in-Some.late c.in-Some.is
+    found_some (AreJudged b c.args.time c.one-item.result) (λ late. IsBroken b c.args.time (numbers_of late)) c.in_ok-late.field-0 c.in-Some.late c.in-Some.is
     (c.in_ok-late.ensures b seen (span_there c.args.over_alls.now c.loop-one.one-index c.one-item.result (omega arith) c.one-item.is))
 
 pub loop-one-preserved : goal.loop-one-preserved
@@ -30,7 +30,7 @@ loop-one-preserved c = λ initial at_row.
     let b = box_inside c.args.windows.now (lasting_in c.args.over_alls.now) initial in
     let seen = seen_at b c.args.time c.args.row.now c.args.windows.now c.deref-in-loop-one.result.now c.deref-in-loop-one-2.result.now refl (c.deref-in-loop-one.ensures.value ∙ c.in_ok-unsettled.ensures) (c.deref-in-loop-one-2.ensures.value ∙ c.in_ok-begins.ensures) at_row in
     All-more (AreJudged b c.args.time) c.args.over_alls.now c.loop-one.one-index c.one-item.result (omega arith) (c.loop-one.invariant initial at_row)
-    (subst (AreJudged b c.args.time) c.one-item.is (found_none (AreJudged b c.args.time c.one-item.result) (λ late. IsBroken b (numbers_of late)) c.in_ok-late.field-0 (search rules)
+    (subst (AreJudged b c.args.time) c.one-item.is (found_none (AreJudged b c.args.time c.one-item.result) (λ late. IsBroken b c.args.time (numbers_of late)) c.in_ok-late.field-0 (search rules)
     (c.in_ok-late.ensures b seen (span_there c.args.over_alls.now c.loop-one.one-index c.one-item.result (omega arith) c.one-item.is))))
 
 pub returns : goal.returns

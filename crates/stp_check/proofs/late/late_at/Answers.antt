@@ -19,7 +19,7 @@ returns-in-Some c = λ b seen there.
     let from : h.lasting.owner.start ≤ c.args.time = omega arith in
     let to : c.args.time < h.lasting.owner.high = omega arith in
     let member : Contains h.members c.member-item.result = subst (λ cs. Contains cs c.member-item.result) c.as_slice-member-items.ensures (c.loop-member.member-index, c.loop-member-test.true, sym c.member-item.is) in
-    found_some (IsJudged b (span_of h.lasting) c.args.time c.member-item.result) (λ late. IsBroken b (numbers_of late)) c.in_ok-late.field-0 c.in-Some.late c.in-Some.is
+    found_some (IsJudged b (span_of h.lasting) c.args.time c.member-item.result) (λ late. IsBroken b c.args.time (numbers_of late)) c.in_ok-late.field-0 c.in-Some.late c.in-Some.is
     (member_answered b h c.args.time c.args.row.now c.args.unsettled.now c.args.begins.now seen there from to c.member-item.result member c.in_ok-late.field-0 c.in_ok-late.ensures)
 
 pub loop-member-preserved : goal.loop-member-preserved
@@ -32,7 +32,7 @@ loop-member-preserved c = λ b seen there.
     All-more judged c.as_slice-member-items.result.now c.loop-member.member-index c.member-item.result c.loop-member-test.true (c.loop-member.invariant b seen there)
     (subst judged c.member-item.is (elim c.if-is_due.branch [
       | then-is_due+in_ok-late+in_default w ↦
-          found_none (judged c.member-item.result) (λ late. IsBroken b (numbers_of late)) w.in_ok-late.field-0 w.in_default.is
+          found_none (judged c.member-item.result) (λ late. IsBroken b c.args.time (numbers_of late)) w.in_ok-late.field-0 w.in_default.is
           (member_answered b h c.args.time c.args.row.now c.args.unsettled.now c.args.begins.now seen there from to c.member-item.result member w.in_ok-late.field-0 w.in_ok-late.ensures)
       | else-is_due w ↦ not_due b (span_of h.lasting) c.args.time c.member-item.result c.args.begins.now seen.are_beginning (sym c.is_due.ensures ∙ w.if-is_due.false)
     ]))
