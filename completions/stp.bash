@@ -6,10 +6,10 @@ _stp() {
         check) files=3 options='' ;;
         plan) files=2 options='--budget' ;;
         replay) files=3 options='--durations' ;;
-        help) [ "$COMP_CWORD" -gt 2 ] || options='check plan replay build help' ;;
+        help) [ "$COMP_CWORD" -gt 2 ] || options='check plan replay demo build help' ;;
     esac
     if [ "$COMP_CWORD" = 1 ]; then
-        options='check plan replay build help --help'
+        options='check plan replay demo build help --help'
     elif [ "$COMP_CWORD" -le "$((files + 1))" ]; then
         compopt -o filenames 2>/dev/null
         mapfile -t COMPREPLY < <(compgen -f -- "$word")

@@ -1,7 +1,7 @@
 -- Command lines, read by computing.
 use Rattle.std.proofs.Common.{◌≡◌, [], ◌∷◌, Some, None, codes, refl}
 use Rattle.stp_report.specs.declared.answer.FileName.TheVariants.{Domain, Problem, Plan}
-use Rattle.stp_cli.specs.declared.words.Work.TheVariants.{Check, Replay}
+use Rattle.stp_cli.specs.declared.words.Work.TheVariants.{Check, Replay, Demo}
 use Rattle.stp_cli.specs.Words.{command_of, files_of}
 
 -- `check DOMAIN PROBLEM PLAN`, whatever the program's name is
@@ -15,6 +15,25 @@ other_program = refl
 replay_line : command_of (codes "stp" ∷ codes "replay" ∷ codes "d" ∷ codes "p" ∷ codes "l" ∷ codes "--durations" ∷ codes "4" ∷ [])
     ≡ Some (record { work = Replay; names = codes "d" ∷ codes "p" ∷ codes "l" ∷ []; list = codes "4" })
 replay_line = refl
+
+-- `demo N`: 1 to 3 digits, from 1 to 250, and no file
+demo_line : command_of (codes "stp" ∷ codes "demo" ∷ codes "250" ∷ []) ≡ Some (record { work = Demo 250; names = []; list = [] })
+demo_line = refl
+
+zeros_in_front : command_of (codes "stp" ∷ codes "demo" ∷ codes "007" ∷ []) ≡ Some (record { work = Demo 7; names = []; list = [] })
+zeros_in_front = refl
+
+no_rover : command_of (codes "stp" ∷ codes "demo" ∷ codes "0" ∷ []) ≡ None
+no_rover = refl
+
+too_many_rovers : command_of (codes "stp" ∷ codes "demo" ∷ codes "251" ∷ []) ≡ None
+too_many_rovers = refl
+
+too_many_digits : command_of (codes "stp" ∷ codes "demo" ∷ codes "0002" ∷ []) ≡ None
+too_many_digits = refl
+
+a_plus : command_of (codes "stp" ∷ codes "demo" ∷ codes "+2" ∷ []) ≡ None
+a_plus = refl
 
 -- what is no command: too few words, too many, one that begins with `-` or is empty, another order, another option
 no_words : command_of [] ≡ None

@@ -24,9 +24,9 @@ use Rattle.stp_cli.specs.declared.status.Status.{Status}
 use Rattle.stp_cli.specs.declared.status.Status.TheVariants as statuses
 use Rattle.stp_cli.specs.declared.texts.Texts.{Texts}
 use Rattle.stp_cli.specs.declared.words.Work.{Work}
-use Rattle.stp_cli.specs.declared.words.Work.TheVariants.{Check, Replay, Plan}
+use Rattle.stp_cli.specs.declared.words.Work.TheVariants.{Check, Replay, Plan, Demo}
 use Rattle.stp_cli.specs.Calls.{Files, StoreCall, SinkCall, steady_call, silent_call}
-use Rattle.stp_cli.specs.Words.{Named, Command, command_of, files_of}
+use Rattle.stp_cli.specs.Words.{Named, Command, command_of, files_of, named_of, roles_of}
 use Rattle.stp_cli.specs.Texts.{no_texts, with_text}
 use Rattle.stp_base.specs.Results.{◌>>=◌}
 use Rattle.stp_cli.specs.Refusals.{refusal, refused, ground_fault, IsOrRefused}
@@ -37,6 +37,7 @@ use Rattle.stp_cli.specs.Replay.{durations_of, IsReplay, IsReplayedCase}
 use Rattle.stp_cli.specs.Replies.{status_of}
 use Rattle.stp_cli.specs.Answers.{IsChecked, IsPlanned, IsPlannedIn, IsRight}
 use Rattle.stp_cli.specs.Planned.{IsPlannedTask}
+use Rattle.stp_cli.specs.Demo.{TwoCases, demo_cases, IsShown, IsDemo}
 use Rattle.stp_task.specs.CertificateViews.{pair_of}
 use Rattle.stp_task.specs.Certificates.{IsCertificate, IsLeastClosed, Pair, possible}
 use Rattle.stp_task.specs.Tasks.{PlainTask}
@@ -49,7 +50,7 @@ use Rattle.stp_unreachable.proofs.Premises.{events_are_proper}
 use Rattle.stp_cli.proofs.ReadProblems.{bound, no_fault, simple_actions_are_plain}
 use Rattle.stp_relax.proofs.Growing.{possible_grows}
 use Rattle.stp_cli.specs.Outcome.{IsAllowedTo, IsAllowed, IsOutcome}
-use Rattle.stp_cli.specs.Headline.{texts_in, case_in, refusal_on, refusal_in, SaysStrong, IsHeadline, AreSteady, IsOverFiles, IsCheck, IsHeadlineOf, IsHopeless, IsPlanAnswer, IsPlanHeadline, IsPlanHeadlineOf, IsComplete, problem_in, ChecksMeetTheHeadline, PlansMeetTheHeadline, StrongIsExact, ChecksAreOfTexts, ChecksHaveOneText, RefusalsAreExact, RightAnswersAreNoFaults, SteadyNamesAreRead}
+use Rattle.stp_cli.specs.Headline.{texts_in, case_in, refusal_on, refusal_in, SaysStrong, IsHeadline, AreSteady, IsOverFiles, IsCheck, IsHeadlineOf, IsHopeless, IsPlanAnswer, IsPlanHeadline, IsPlanHeadlineOf, IsDemoHeadline, IsDemoHeadlineOf, IsComplete, problem_in, ChecksMeetTheHeadline, PlansMeetTheHeadline, StrongIsExact, ChecksAreOfTexts, ChecksHaveOneText, RefusalsAreExact, RightAnswersAreNoFaults, SteadyNamesAreRead}
 
 -- ---- faults of the outside
 
@@ -79,6 +80,8 @@ pub right_answers_are_no_faults : RightAnswersAreNoFaults
 right_answers_are_no_faults Check list texts answer right = fault_free (λ c. IsVerdict (grid_of c) (box_of c)) (λ c. free_verdict (grid_of c) (box_of c)) (case_of texts.domain texts.problem texts.plan) answer right
 right_answers_are_no_faults Replay list texts answer right = fault_free (IsReplayedCase list) (free_replay list) (case_of texts.domain texts.problem texts.plan) answer right
 right_answers_are_no_faults Plan list texts answer right = fault_free IsPlannedIn (λ p. fault_free (IsPlannedTask p) (free_task p) (task_in p)) (problem_of_texts texts.domain texts.problem) answer right
+right_answers_are_no_faults (Demo number) list texts answer right =
+    fault_free (IsShown number) (λ cases a v e. let both : statuses.Done ≡ statuses.OutsideFault = sym (ap status_of v.answered) ∙ e in cc) (demo_cases number) answer right
 
 stopped_steadily : (reads : StoreCall) (fs : List Named) (answer : Answer) → AreSteady reads fs → IsStopped reads fs answer → status_of answer ≢ statuses.OutsideFault
 stopped_steadily reads [] answer all h = absurd h
@@ -192,6 +195,7 @@ exact_of : (work : Work) (list : List ℕ) (texts : Texts) (answer : Answer) →
 exact_of Check list texts answer right r = exact_or (λ c. IsVerdict (grid_of c) (box_of c)) (λ c. no_verdict (grid_of c) (box_of c)) (case_of texts.domain texts.problem texts.plan) answer right r
 exact_of Replay list texts answer right r = exact_replay list (case_of texts.domain texts.problem texts.plan) answer right r
 exact_of Plan list texts answer right r = exact_plan (problem_of_texts texts.domain texts.problem) answer right r
+exact_of (Demo number) list texts answer right r = exact_or (IsShown number) (λ cases a s v e. let both = sym v.answered ∙ e in cc) (demo_cases number) answer right r
 
 exact_in : (work : Work) (list : List ℕ) (read : Result Texts CaseFault) (answer : Answer) → IsOrRefused (IsRight work list) read answer → (r : Refusal) → (answer ≡ refused r) ↔ (refusal_in work list read ≡ Some (cases.Refused r))
 exact_in work list (Err cases.Memory) answer is r = absurd is
@@ -375,6 +379,34 @@ plan_headline_of_outcome reads writes words status (inr answered) file c is work
         plan_headline_on (problem_in file c) (simple_in file c) answered.answer (planned_in file c answered.answer work (told_answer reads file c answered.answer told (λ e. inside (written.ended ∙ e)) allowed)),
         written,
       )
+      | inr broken ↦ absurd (inside broken.ended)
+    ]
+
+-- ---- the headline of demos
+
+demo_headline_on : (number : ℕ) (read : Result TwoCases CaseFault) (answer : Answer) → IsOrRefused (IsShown number) read answer → IsDemoHeadline number read answer
+demo_headline_on number (Err cases.Memory) answer is = absurd is
+demo_headline_on number (Err (cases.Refused r)) answer is = record {
+  refusals = λ s e. let same : r ≡ s = cc in is ∙ ap refused same;
+  shown = λ two e. absurd (cc);
+}
+demo_headline_on number (Ok made) answer is = record {
+  refusals = λ r e. absurd (cc);
+  shown = λ two e. let same : made ≡ two = cc in subst (λ x. IsShown number x answer) same is;
+}
+
+-- a demo names no file, so none stops it
+demo_answer : (reads : StoreCall) (c : Command) (answer : Answer) (number : ℕ) → c.work ≡ Demo number → IsAllowedTo reads c answer → IsDemo number answer
+demo_answer reads c answer number work (inl stopped) = absurd (subst (λ w. IsStopped reads (named_of (roles_of w) c.names) answer) work stopped)
+demo_answer reads c answer number work (inr done) = subst (λ w. IsRight w c.list done.texts answer) work done.right
+
+-- an answer that is no want of memory and no fault of the outside was written whole, and is the one of the headline
+pub demo_headline_of_outcome : (reads : StoreCall) (writes : SinkCall) (words : List (List ℕ)) (status : Status) → IsOutcome reads writes words status → IsDemoHeadlineOf writes words status
+demo_headline_of_outcome reads writes words status (inl want) number c is work remembered inside = absurd (remembered want.ended)
+demo_headline_of_outcome reads writes words status (inr answered) number c is work remembered inside =
+    let allowed : IsAllowedTo reads c answered.answer = rw is at answered.allowed in
+    elim answered.left [
+      | inl written ↦ (answered.answer, demo_headline_on number (demo_cases number) answered.answer (demo_answer reads c answered.answer number work allowed), written)
       | inr broken ↦ absurd (inside broken.ended)
     ]
 

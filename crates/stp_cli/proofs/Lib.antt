@@ -10,3 +10,4 @@ mod NoWant
 mod OneAnswer
 mod EmptyPlans
 mod ReadProblems
+mod ShownDemos

@@ -1,5 +1,6 @@
 -- Answers that are right on one command's texts are printed alike.
-use Rattle.std.proofs.Common.{◌≡◌, ℕ, Bool, true, false, inl, inr, zero, suc, ◌*◌, ◌/◌, ◌<◌, ◌≤◌, List, map, Option, Some, None, Result, Ok, Err, Bor, refl, sym, ap, subst, ◌∙◌, arith}
+use Rattle.std.proofs.Common.{◌≡◌, ℕ, Bool, true, false, inl, inr, zero, suc, ◌*◌, ◌-◌, ◌/◌, ◌<◌, ◌≤◌, List, length, map, Option, Some, None, Result, Ok, Err, Bor, refl, sym, ap, subst, ◌∙◌, arith}
+use Rattle.std.specs.Prelude.{slice_get}
 use Rattle.std.proofs.Math.Logic.{∥∥₁_elim}
 use Rattle.std.proofs.Math.Nat.{mul-div_cancel_left}
 use Rattle.std.proofs.Props.{props}
@@ -19,20 +20,25 @@ use Rattle.stp_happen.specs.Plain.{PlainRun}
 use Rattle.stp_happen.specs.declared.fault.Fault.{Fault}
 use Rattle.stp_happen.specs.declared.run.Run.{Run}
 use Rattle.stp_happen.proofs.FirstFaults.{first_faults_mean_failure}
+use Rattle.stp_happen.proofs.LeastFailures.{least_failure_is_one}
 use Rattle.stp_happen.proofs.OneFault.{first_fault_is_one}
+use Rattle.stp_happen.specs.Faults.{IsFirstFault}
 use Rattle.stp_exec.specs.Timed.{count_of}
 use Rattle.stp_exec.specs.Fitting.{grid_with}
 use Rattle.stp_report.specs.declared.answer.Answer.{Answer}
 use Rattle.stp_report.specs.declared.answer.Answer.TheVariants as answers
+use Rattle.stp_report.specs.declared.answer.Failure.{Failure}
+use Rattle.stp_report.specs.declared.answer.Summary.{Summary}
 use Rattle.stp_report.specs.Texts.{text_of}
 use Rattle.stp_report.proofs.OneText.{replays_have_one_text}
 use Rattle.stp_cli.specs.declared.refusal.CaseFault.{CaseFault}
 use Rattle.stp_cli.specs.declared.refusal.CaseFault.TheVariants as faults
-use Rattle.stp_cli.specs.declared.words.Work.TheVariants.{Check, Replay, Plan}
+use Rattle.stp_cli.specs.declared.words.Work.TheVariants.{Check, Replay, Plan, Demo}
 use Rattle.stp_cli.specs.Refusals.{refused, IsOrRefused}
 use Rattle.stp_cli.specs.Case.{PlainCase, case_of, problem_of_texts, task_in, times_of, grid_of, box_of}
 use Rattle.stp_cli.specs.Answers.{IsPlannedIn}
 use Rattle.stp_cli.specs.Planned.{IsPlannedTask, IsUnreachable}
+use Rattle.stp_cli.specs.Demo.{IsFailing, IsJudged, IsSummary, TwoCases, demo_cases, IsShown}
 use Rattle.stp_cli.specs.Replay.{IsJudgedBy, IsRunWith, IsReplay, IsReplayedCase, durations_of}
 use Rattle.stp_cli.specs.Replies.{status_of}
 use Rattle.stp_cli.specs.Headline.{RightAnswersHaveOneText}
@@ -124,6 +130,34 @@ one_planned p t one other (inr (inr v)) (inl w) = absurd (v.weak w.strong)
 one_planned p t one other (inr (inr v)) (inr (inl w)) = absurd (never_both t (pair_of w.certificate.now) (pair_of v.certificate) w.least v.least w.impossible v.may_hold)
 one_planned p t one other (inr (inr v)) (inr (inr w)) = alike one other answers.BudgetSpent v.answered w.answered
 
+-- ---- demos
+
+one_failing : (box : PlainBox) (f g : Failure) → IsFailing box f → IsFailing box g → f ≡ g
+one_failing box f g v w =
+    let durations : v.durations ≡ w.durations = least_failure_is_one box v.durations w.durations v.least w.least in
+    let last : f.last ≡ g.last = v.last ∙ ap (λ (ds : List ℕ). slice_get ds (length ds - 1)) durations ∙ sym w.last in
+    let fault : f.fault ≡ g.fault = first_fault_is_one (run_under box w.durations) f.fault g.fault (subst (λ ds. IsFirstFault (run_under box ds) f.fault) durations v.first) w.first in
+    ap (λ x. record { last = x; fault = f.fault }) last ∙ ap (λ x. record { last = g.last; fault = x }) fault
+
+one_failure : (box : PlainBox) (one other : Option Failure) → IsJudged box one → IsJudged box other → one ≡ other
+one_failure box None None v w = refl
+one_failure box None (Some g) v w = absurd (w.weak v)
+one_failure box (Some f) None v w = absurd (v.weak w)
+one_failure box (Some f) (Some g) v w = ap Some (one_failing box f g v w)
+
+one_summary : (grid : ℕ) (box : PlainBox) (s t : Summary) → IsSummary grid box s → IsSummary grid box t → s ≡ t
+one_summary grid box s t v w =
+    ap (λ x. record { steps = x; uncertain = s.uncertain; grid = s.grid; failure = s.failure }) (v.steps ∙ sym w.steps)
+    ∙ ap (λ x. record { steps = t.steps; uncertain = x; grid = s.grid; failure = s.failure }) (v.uncertain ∙ sym w.uncertain)
+    ∙ ap (λ x. record { steps = t.steps; uncertain = t.uncertain; grid = x; failure = s.failure }) (v.on_grid ∙ sym w.on_grid)
+    ∙ ap (λ x. record { steps = t.steps; uncertain = t.uncertain; grid = t.grid; failure = x }) (one_failure box s.failure t.failure v.judged w.judged)
+
+one_shown : (number : ℕ) (cases : TwoCases) (one other : Answer) → IsShown number cases one → IsShown number cases other → AreAlike one other
+one_shown number cases one other v w =
+    let plan : v.plan ≡ w.plan = one_summary (grid_of cases.plan) (box_of cases.plan) v.plan w.plan v.of_plan w.of_plan in
+    let spoiled : v.spoiled ≡ w.spoiled = one_summary (grid_of cases.spoiled) (box_of cases.spoiled) v.spoiled w.spoiled v.of_spoiled w.of_spoiled in
+    alike one other (answers.Demo number w.plan w.spoiled) (v.answered ∙ ap (λ s. answers.Demo number s v.spoiled) plan ∙ ap (answers.Demo number w.plan) spoiled) w.answered
+
 -- ---- answers
 
 alike_or : {A : Type 0} (right : A → Answer → Type 0) → ((a : A) (one other : Answer) → right a one → right a other → AreAlike one other) → (read : Result A CaseFault) (one other : Answer)
@@ -139,3 +173,4 @@ pub right_answers_have_one_text : RightAnswersHaveOneText
 right_answers_have_one_text Check list texts one other v w = one_answer (case_of texts.domain texts.problem texts.plan) one other v w
 right_answers_have_one_text Replay list texts one other v w = alike_or (IsReplayedCase list) (one_replayed list) (case_of texts.domain texts.problem texts.plan) one other v w
 right_answers_have_one_text Plan list texts one other v w = alike_or IsPlannedIn (λ p. alike_or (IsPlannedTask p) (one_planned p) (task_in p)) (problem_of_texts texts.domain texts.problem) one other v w
+right_answers_have_one_text (Demo number) list texts one other v w = alike_or (IsShown number) (one_shown number) (demo_cases number) one other v w

@@ -1,6 +1,6 @@
 -- Verdicts on boxes, and the times that they print.
-use Rattle.std.proofs.Common.{◌≡◌, ℕ, ◌+◌, ◌*◌, ◌≤◌, ◌<◌, Bool, true, false, if◌then◌else◌, List, [], ◌∷◌, ◌++◌, length, drop, All, not, filter, refl, sym, ap, subst, ◌∙◌, arith}
-use Rattle.std.specs.Prelude.{slice_index, cond, count_by}
+use Rattle.std.proofs.Common.{◌≡◌, ℕ, zero, suc, ◌+◌, ◌*◌, ◌≤◌, ◌<◌, Bool, true, false, if◌then◌else◌, List, [], ◌∷◌, ◌++◌, length, drop, All, not, filter, refl, sym, ap, subst, ◌∙◌, arith}
+use Rattle.std.specs.Prelude.{slice_index, slice_get, cond, count_by, IfSome}
 use Rattle.std.proofs.lemmas.List.{length-map}
 use Rattle.std.proofs.lemmas.List.Sums.{sum_by-append}
 use Rattle.std.proofs.Math.Logic.{∥∥₁_elim}
@@ -74,6 +74,12 @@ weak_times boxed durations fault vector time = record {
   durations_within = vector_times boxed.grid (plain_box boxed).owners durations (owners_in_time boxed) vector;
   fault_within = time;
 }
+
+-- what holds of all holds of the one at a place, if there is one
+pub got_of_all : {A : Type 0} (P : A → Type 0) (xs : List A) (k : ℕ) → All P xs → IfSome (slice_get xs k) P
+got_of_all P [] k all = tt
+got_of_all P (x ∷ xs) zero all = All-head P x xs all
+got_of_all P (x ∷ xs) (suc k) all = got_of_all P xs k (All-tail P x xs all)
 
 -- ---- how many steps there are
 

@@ -4,8 +4,9 @@ use Rattle.stp_schema.specs.Views.{PlainProblem}
 use Rattle.stp_report.specs.declared.answer.Answer.{Answer}
 use Rattle.stp_cli.specs.declared.texts.Texts.{Texts}
 use Rattle.stp_cli.specs.declared.words.Work.{Work}
-use Rattle.stp_cli.specs.declared.words.Work.TheVariants.{Check, Replay, Plan}
+use Rattle.stp_cli.specs.declared.words.Work.TheVariants.{Check, Replay, Plan, Demo}
 use Rattle.stp_cli.specs.Planned.{IsPlannedTask}
+use Rattle.stp_cli.specs.Demo.{IsDemo}
 use Rattle.stp_cli.specs.Case.{case_of, grid_of, box_of, problem_of_texts, task_in}
 use Rattle.stp_cli.specs.Refusals.{IsOrRefused}
 use Rattle.stp_cli.specs.Verdict.{IsVerdict}
@@ -33,3 +34,4 @@ abbrev pub IsRight : Work → List ℕ → Texts → Answer → Type 0
 IsRight Check list texts answer = IsChecked texts answer
 IsRight Replay list texts answer = IsReplayed list texts answer
 IsRight Plan list texts answer = IsPlanned texts answer
+IsRight (Demo number) list texts answer = IsDemo number answer

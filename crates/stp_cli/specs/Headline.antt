@@ -25,7 +25,7 @@ use Rattle.stp_cli.specs.declared.status.Status.{Status}
 use Rattle.stp_cli.specs.declared.status.Status.TheVariants as statuses
 use Rattle.stp_cli.specs.declared.texts.Texts.{Texts}
 use Rattle.stp_cli.specs.declared.words.Work.{Work}
-use Rattle.stp_cli.specs.declared.words.Work.TheVariants.{Check, Replay, Plan}
+use Rattle.stp_cli.specs.declared.words.Work.TheVariants.{Check, Replay, Plan, Demo}
 use Rattle.stp_cli.specs.Calls.{Files, StoreCall, SinkCall}
 use Rattle.stp_cli.specs.Words.{Named, Command, command_of, files_of}
 use Rattle.stp_cli.specs.Texts.{no_texts, with_text}
@@ -35,6 +35,7 @@ use Rattle.stp_cli.specs.Case.{PlainCase, case_of, problem_of_texts, task_in, ti
 use Rattle.stp_cli.specs.Loading.{IsStopped, AreLoaded}
 use Rattle.stp_cli.specs.Verdict.{IsStrongVerdict, IsWeakVerdict}
 use Rattle.stp_cli.specs.Planned.{IsUnreachable}
+use Rattle.stp_cli.specs.Demo.{TwoCases, demo_cases, IsShown}
 use Rattle.stp_cli.specs.Replay.{durations_of}
 use Rattle.stp_cli.specs.Replies.{status_of}
 use Rattle.stp_cli.specs.Answers.{IsRight}
@@ -74,6 +75,7 @@ refusal_on Check list texts = result_err (case_of texts.domain texts.problem tex
 refusal_on Replay list texts =
     result_err (case_of texts.domain texts.problem texts.plan >>= (λ c. durations_of (times_of c) list))
 refusal_on Plan list texts = result_err (problem_of_texts texts.domain texts.problem >>= task_in)
+refusal_on (Demo number) list texts = result_err (demo_cases number)
 
 abbrev pub refusal_in : Work → List ℕ → Result Texts CaseFault → Option CaseFault
 refusal_in work list (Err fault) = Some fault
@@ -144,6 +146,13 @@ pub record IsPlanHeadline (read : Result PlainProblem CaseFault) (answer : Answe
   pub refusals : (r : Refusal) → (read >>= task_in) ≡ Err (Refused r) → answer ≡ refused r
   pub answers : (p : PlainProblem) (t : PlainTask) → read ≡ Ok p → task_in p ≡ Ok t → IsPlanAnswer p t answer
 
+-- What is answered to `demo` on the cases of its two plans, or on the refusal that stands in their place: of its plan
+-- and of its spoiled plan how many steps they have, on which base grid, that they are strong exactly where they are, and
+-- otherwise the last entry of their least failure with the first fault of that run.
+pub record IsDemoHeadline (number : ℕ) (read : Result TwoCases CaseFault) (answer : Answer) : Type 0 where
+  pub refusals : (r : Refusal) → read ≡ Err (Refused r) → answer ≡ refused r
+  pub shown : (cases : TwoCases) → read ≡ Ok cases → IsShown number cases answer
+
 -- each name of these files is steady
 abbrev pub AreSteady : StoreCall → List Named → Type 0
 AreSteady reads files = All (λ (f : Named). reads.steady f.name ≡ true) files
@@ -172,6 +181,13 @@ IsPlanHeadlineOf reads writes words status =
     (file : Files) (c : Command) → command_of words ≡ Some c → c.work ≡ Plan → reads.told ≡ Some file
     → status ≢ statuses.Memory → status ≢ statuses.OutsideFault
     → (answer : Answer) × IsPlanHeadline (problem_in file c) answer × IsWritten writes status answer
+
+-- The same of a `demo`, whatever its store is: its texts are those that are made.
+abbrev pub IsDemoHeadlineOf : SinkCall → List (List ℕ) → Status → Type 0
+IsDemoHeadlineOf writes words status =
+    (number : ℕ) (c : Command) → command_of words ≡ Some c → c.work ≡ Demo number
+    → status ≢ statuses.Memory → status ≢ statuses.OutsideFault
+    → (answer : Answer) × IsDemoHeadline number (demo_cases number) answer × IsWritten writes status answer
 
 -- A call with a command as its words, over files of steady names and in which no write failed, ends with no fault of
 -- the outside.

@@ -10,6 +10,7 @@ pub mod Replies
 pub mod Verdict
 pub mod Replay
 pub mod Planned
+pub mod Demo
 pub mod Answers
 pub mod Outcome
 pub mod Headline

@@ -14,6 +14,7 @@ status_of (answers.Replay run (Some fault)) = statuses.No
 status_of answers.EmptyPlan = statuses.Done
 status_of (answers.Unreachable problem task certificate) = statuses.No
 status_of answers.BudgetSpent = statuses.BudgetSpent
+status_of (answers.Demo number plan spoiled) = statuses.Done
 status_of (answers.Refused file code at) = statuses.Refused
 status_of (answers.ReadFault file) = statuses.OutsideFault
 status_of answers.Usage = statuses.Usage

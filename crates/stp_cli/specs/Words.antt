@@ -1,11 +1,13 @@
 -- Command lines.
-use Rattle.std.specs.Prelude.{ℕ, Bool, false, not, ◌==◌, ◌&&◌, if◌then◌else◌, List, [], ◌∷◌, length, take, drop, Option, Some, None, bytes_eq, codes}
+use Rattle.std.specs.Prelude.{ℕ, ◌≤◌, Bool, false, not, ◌==◌, ◌&&◌, nat_le, if◌then◌else◌, List, [], ◌∷◌, length, take, drop, Option, Some, None, bytes_eq, codes}
 use Rattle.std.specs.List.{list_all}
+use Rattle.std.specs.Str.Parse.{digits_value}
+use Rattle.stp_frac.specs.Reading.{is_group}
 use Rattle.stp_report.specs.declared.answer.FileName.{FileName}
 use Rattle.stp_report.specs.declared.answer.FileName.TheVariants.{Domain, Problem, Plan}
 use Rattle.stp_cli.specs.declared.words.Work.{Work}
 use Rattle.stp_cli.specs.declared.words.Work.TheVariants as works
-use Rattle.stp_cli.specs.declared.words.Work.TheVariants.{Check, Replay}
+use Rattle.stp_cli.specs.declared.words.Work.TheVariants.{Check, Replay, Demo}
 
 -- a file of a command: what it is, and its name
 pub record Named : Type 0 where
@@ -27,6 +29,7 @@ abbrev pub roles_of : Work → List FileName
 roles_of Check = Domain ∷ Problem ∷ Plan ∷ []
 roles_of Replay = Domain ∷ Problem ∷ Plan ∷ []
 roles_of works.Plan = Domain ∷ Problem ∷ []
+roles_of (Demo number) = []
 
 -- each role with the name in its place
 abbrev pub named_of : List FileName → List (List ℕ) → List Named
@@ -74,13 +77,41 @@ abbrev pub plan_with : List (List ℕ) → List (List ℕ) → Option Command
 plan_with names (option ∷ budget ∷ []) = plan_in option budget names
 plan_with names others = None
 
+-- ---- numbers
+
+-- the number that 1 to so many digits spell, where it lies within these bounds
+abbrev pub number_in : ℕ → ℕ → ℕ → List ℕ → Option ℕ
+number_in digits least most word =
+    let number = digits_value 10 word in
+    if is_group word && nat_le (length word) digits && nat_le least number && nat_le number most then Some number else None
+
+-- a demo of so many rovers, which names no file
+abbrev pub demo_of : Option ℕ → Option Command
+demo_of None = None
+demo_of (Some number) = command_with (Demo number) [] []
+
+-- one word: a number from 1 to 250
+abbrev pub demo_with : List (List ℕ) → Option Command
+demo_with (count ∷ []) = demo_of (number_in 3 1 250 count)
+demo_with others = None
+
+-- the numbers of rovers that a demo can have
+abbrev pub IsSized : Work → Type 0
+IsSized Check = Unit {0}
+IsSized Replay = Unit {0}
+IsSized works.Plan = Unit {0}
+IsSized (Demo number) = (1 ≤ number) × (number ≤ 250)
+
+-- ---- commands
+
 -- what the words behind a command's word have to be: a line for each command
 abbrev pub row_of : List ℕ → List (List ℕ) → Option Command
 row_of word rest =
     if bytes_eq word (codes "check") then command_with Check rest [] else
     (if bytes_eq word (codes "replay") then replay_with (take 3 rest) (drop 3 rest) else
     (if bytes_eq word (codes "plan") then plan_with (take 2 rest) (drop 2 rest) else
-    None))
+    (if bytes_eq word (codes "demo") then demo_with rest else
+    None)))
 
 -- The command that these words are, with the program's name first. No other list is a command.
 abbrev pub command_of : List (List ℕ) → Option Command

@@ -2,10 +2,12 @@
 
 ghost use Rattle.std.specs.Prelude.{IfOk};
 ghost use Rattle.stp_cli.specs.Texts.{AreShort};
+ghost use Rattle.stp_cli.specs.Words.{IsSized};
 ghost use Rattle.stp_cli.specs.Replies.{IsReply};
 ghost use Rattle.stp_cli.specs.Answers.{IsChecked, IsReplayed, IsRight};
 
 use crate::case::{read_problem_texts, read_steps};
+use crate::demo::demo;
 use crate::plan::plan_texts;
 use crate::replay::replay;
 use crate::reply::{Reply, refuse};
@@ -62,12 +64,14 @@ fn replay_texts(alloc: Global, texts: &Texts, list: &str) -> Result<Reply, Memor
 
 /// The reply to a work on the texts of its files: a line for each work.
 pub fn judge(alloc: Global, work: Work, list: &str, texts: &Texts) -> Result<Reply, Memory>
-    requires { AreShort texts.now }
+    requires short { AreShort texts.now }
+    requires sized { IsSized work }
     ensures { IfOk result (λ r. IsReply (IsRight work list.now texts.now) r.status r.text) }
 {
     match work {
         Work::Check => check_texts(alloc, texts),
         Work::Replay => replay_texts(alloc, texts, list),
         Work::Plan => plan_texts(alloc, texts),
+        Work::Demo(number) => demo(alloc, number),
     }
 }

@@ -2,9 +2,11 @@
 #![tactic(auto)]
 
 mod case;
+mod demo;
 mod judge;
 pub mod laws;
 mod loading;
+mod numbers;
 mod plan;
 mod refusal;
 mod replay;

@@ -31,6 +31,7 @@ fn status_of(answer: &Answer<'_, '_>) -> Status
         Answer::EmptyPlan => Status::Done,
         Answer::Unreachable { .. } => Status::No,
         Answer::BudgetSpent => Status::BudgetSpent,
+        Answer::Demo { .. } => Status::Done,
         Answer::Refused { .. } => Status::Refused,
         Answer::ReadFault(_) => Status::OutsideFault,
         Answer::Usage => Status::Usage,

@@ -3,11 +3,11 @@
 ghost use Rattle.std.specs.Prelude.{◌≡◌, ◌≤◌, ℕ, true, List, length, map, string_bytes, Ok, Err, IfOk, IfErr};
 ghost use Rattle.stp_cli.specs.Calls.{store_call, sink_call};
 ghost use Rattle.stp_cli.specs.Named.{plain_command};
-ghost use Rattle.stp_cli.specs.Words.{command_of, roles_of};
+ghost use Rattle.stp_cli.specs.Words.{command_of, roles_of, IsSized};
 ghost use Rattle.stp_cli.specs.Loading.{IsUnloaded};
 ghost use Rattle.stp_cli.specs.Replies.{IsReply};
 ghost use Rattle.stp_cli.specs.Outcome.{IsAllowedTo, IsAllowed, IsOutcome};
-ghost use Rattle.stp_cli.specs.Headline.{IsHeadlineOf, IsPlanHeadlineOf, IsComplete};
+ghost use Rattle.stp_cli.specs.Headline.{IsHeadlineOf, IsPlanHeadlineOf, IsDemoHeadlineOf, IsComplete};
 
 use crate::judge::judge;
 use crate::loading::{Unloaded, load_all};
@@ -50,7 +50,8 @@ fn reply_unloaded(alloc: Global, unloaded: Unloaded) -> Result<Reply, Memory>
 
 /// The reply to a command on the files that it names.
 fn reply_to<S: Store>(alloc: Global, command: &Command<'_>, store: &mut S) -> Result<Reply, Memory>
-    requires { length command.now.names.now ≡ length (roles_of command.now.work) }
+    requires complete { length command.now.names.now ≡ length (roles_of command.now.work) }
+    requires sized { IsSized command.now.work }
     ensures reply { IfOk result (λ r. IsReply
         (IsAllowedTo (store_call S.files S.steady S.faults store.old store.new) (plain_command command.now))
         r.status
@@ -128,6 +129,10 @@ pub fn run<S: Store, K: Sink>(
         result }
     ensures plan_headline { IsPlanHeadlineOf
         (store_call S.files S.steady S.faults store.old store.new)
+        (sink_call K.written K.faults sink.old sink.new)
+        (map string_bytes words.now)
+        result }
+    ensures demo_headline { IsDemoHeadlineOf
         (sink_call K.written K.faults sink.old sink.new)
         (map string_bytes words.now)
         result }

@@ -2,9 +2,10 @@
 
 ghost use Rattle.std.specs.Prelude.{◌≡◌, map, length, string_bytes, option_map, IfSome};
 ghost use Rattle.std.specs.List.{list_all};
-ghost use Rattle.stp_cli.specs.Words.{is_file_word, roles_of, command_with, replay_in, replay_with, plan_in, plan_with, row_of, command_of};
+ghost use Rattle.stp_cli.specs.Words.{is_file_word, roles_of, command_with, replay_in, replay_with, plan_in, plan_with, number_in, demo_of, demo_with, IsSized, row_of, command_of};
 ghost use Rattle.stp_cli.specs.Named.{plain_command};
 
+use crate::numbers::number_in;
 use stp_report::FileName;
 
 /// What is to be done.
@@ -16,6 +17,8 @@ pub enum Work {
     Replay,
     /// A plan that is found without a search.
     Plan,
+    /// Verdicts on the demo of so many rovers.
+    Demo(u32),
 }
 
 /// What words ask for.
@@ -42,6 +45,7 @@ pub fn roles_of(work: Work) -> &'static [FileName]
         Work::Check => &CASE,
         Work::Replay => &CASE,
         Work::Plan => &WORLD,
+        Work::Demo(_) => &[],
     }
 }
 
@@ -69,9 +73,11 @@ fn are_file_words(words: &[String]) -> bool
 
 /// A work on files of these names and with this list, where each file that it wants has a name.
 fn command_with<'a>(work: Work, names: &'a [String], list: &'a str) -> Option<Command<'a>>
+    requires { IsSized work }
     ensures command { option_map plain_command result
         ≡ command_with work (map string_bytes names.now) list.now }
     ensures complete { IfSome result (λ c. length c.names.now ≡ length (roles_of c.work)) }
+    ensures sized { IfSome result (λ c. IsSized c.work) }
 {
     if names.len() == roles_of(work).len() && are_file_words(names) {
         return Some(Command { work, names, list });
@@ -84,6 +90,7 @@ fn replay_in<'a>(option: &str, list: &'a str, names: &'a [String]) -> Option<Com
     ensures command { option_map plain_command result
         ≡ replay_in option.now list.now (map string_bytes names.now) }
     ensures complete { IfSome result (λ c. length c.names.now ≡ length (roles_of c.work)) }
+    ensures sized { IfSome result (λ c. IsSized c.work) }
 {
     if option == "--durations" && is_file_word(list) {
         return command_with(Work::Replay, names, list);
@@ -96,6 +103,7 @@ fn replay_with<'a>(names: &'a [String], options: &'a [String]) -> Option<Command
     ensures command { option_map plain_command result
         ≡ replay_with (map string_bytes names.now) (map string_bytes options.now) }
     ensures complete { IfSome result (λ c. length c.names.now ≡ length (roles_of c.work)) }
+    ensures sized { IfSome result (λ c. IsSized c.work) }
 {
     match options {
         [option, list] => replay_in(option.as_str(), list.as_str(), names),
@@ -108,6 +116,7 @@ fn plan_in<'a>(option: &str, budget: &str, names: &'a [String]) -> Option<Comman
     ensures command { option_map plain_command result
         ≡ plan_in option.now budget.now (map string_bytes names.now) }
     ensures complete { IfSome result (λ c. length c.names.now ≡ length (roles_of c.work)) }
+    ensures sized { IfSome result (λ c. IsSized c.work) }
 {
     if option == "--budget" && budget == "0" {
         return command_with(Work::Plan, names, "");
@@ -120,9 +129,34 @@ fn plan_with<'a>(names: &'a [String], options: &'a [String]) -> Option<Command<'
     ensures command { option_map plain_command result
         ≡ plan_with (map string_bytes names.now) (map string_bytes options.now) }
     ensures complete { IfSome result (λ c. length c.names.now ≡ length (roles_of c.work)) }
+    ensures sized { IfSome result (λ c. IsSized c.work) }
 {
     match options {
         [option, budget] => plan_in(option.as_str(), budget.as_str(), names),
+        _ => None,
+    }
+}
+
+/// The demo of as many rovers as a word spells.
+fn demo_in<'a>(count: &str) -> Option<Command<'a>>
+    ensures command { option_map plain_command result ≡ demo_of (number_in 3 1 250 count.now) }
+    ensures complete { IfSome result (λ c. length c.names.now ≡ length (roles_of c.work)) }
+    ensures sized { IfSome result (λ c. IsSized c.work) }
+{
+    match number_in(3, 1, 250, count) {
+        Some(number) => command_with(Work::Demo(number), &[], ""),
+        None => None,
+    }
+}
+
+/// The demo of as many rovers as the one word spells.
+fn demo_with<'a>(words: &'a [String]) -> Option<Command<'a>>
+    ensures command { option_map plain_command result ≡ demo_with (map string_bytes words.now) }
+    ensures complete { IfSome result (λ c. length c.names.now ≡ length (roles_of c.work)) }
+    ensures sized { IfSome result (λ c. IsSized c.work) }
+{
+    match words {
+        [count] => demo_in(count.as_str()),
         _ => None,
     }
 }
@@ -131,6 +165,7 @@ fn plan_with<'a>(names: &'a [String], options: &'a [String]) -> Option<Command<'
 fn row_of<'a>(word: &str, rest: &'a [String]) -> Option<Command<'a>>
     ensures command { option_map plain_command result ≡ row_of word.now (map string_bytes rest.now) }
     ensures complete { IfSome result (λ c. length c.names.now ≡ length (roles_of c.work)) }
+    ensures sized { IfSome result (λ c. IsSized c.work) }
 {
     match word {
         "check" => command_with(Work::Check, rest, ""),
@@ -142,6 +177,7 @@ fn row_of<'a>(word: &str, rest: &'a [String]) -> Option<Command<'a>>
             let (names, options) = rest.split_at(rest.len().min(2));
             plan_with(names, options)
         }
+        "demo" => demo_with(rest),
         _ => None,
     }
 }
@@ -150,6 +186,7 @@ fn row_of<'a>(word: &str, rest: &'a [String]) -> Option<Command<'a>>
 pub fn read_words<'a>(words: &'a [String]) -> Option<Command<'a>>
     ensures command { option_map plain_command result ≡ command_of (map string_bytes words.now) }
     ensures complete { IfSome result (λ c. length c.names.now ≡ length (roles_of c.work)) }
+    ensures sized { IfSome result (λ c. IsSized c.work) }
 {
     match words {
         [_, word, rest @ ..] => row_of(word.as_str(), rest),

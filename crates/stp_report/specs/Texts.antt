@@ -14,6 +14,8 @@ use Rattle.stp_cond.specs.Views.{atoms_of}
 use Rattle.stp_report.specs.NoPlan.{unreachable_text}
 use Rattle.stp_report.specs.declared.answer.Answer.{Answer}
 use Rattle.stp_report.specs.declared.answer.Answer.TheVariants as answers
+use Rattle.stp_report.specs.declared.answer.Failure.{Failure}
+use Rattle.stp_report.specs.declared.answer.Summary.{Summary}
 use Rattle.stp_report.specs.declared.answer.FileName.{FileName}
 use Rattle.stp_report.specs.declared.answer.FileName.TheVariants as files
 
@@ -179,6 +181,34 @@ abbrev pub strong_line : ℕ → ℕ → ℕ → ℕ → List ℕ
 strong_line steps uncertain events grid =
     line (codes "steps " ++ decimal steps ++ codes " uncertain " ++ decimal uncertain ++ events_text events ++ codes " grid " ++ decimal grid)
 
+-- ---- demos
+
+-- whether a plan that may fail so is strong
+abbrev pub verdict_text : Option Failure → List ℕ
+verdict_text None = codes "strong"
+verdict_text (Some failure) = codes "not strong"
+
+-- what is told of a plan
+abbrev pub summary_line : Summary → List ℕ
+summary_line s =
+    line (codes "steps " ++ decimal s.steps ++ codes " uncertain " ++ decimal s.uncertain ++ codes " grid " ++ decimal s.grid ++ codes " " ++ verdict_text s.failure)
+
+-- the last entry of a least failure, if that has one
+abbrev pub last_text : ℕ → Option ℕ → List ℕ
+last_text grid None = codes "none"
+last_text grid (Some time) = time_text grid time
+
+abbrev pub grid_text : ℕ → List ℕ
+grid_text grid = codes "spoiled grid " ++ decimal grid
+
+-- how the spoiled plan fails, to the end of its line
+abbrev pub failing_text : ℕ → Failure → List ℕ
+failing_text grid f = codes " last " ++ last_text grid f.last ++ codes " " ++ fault_line grid f.fault
+
+abbrev pub failure_text : ℕ → Option Failure → List ℕ
+failure_text grid None = line (codes " strong")
+failure_text grid (Some f) = failing_text grid f
+
 -- ---- what is printed
 
 abbrev pub text_of : Answer → List ℕ
@@ -188,6 +218,7 @@ text_of (answers.Replay run fault) = entry_lines run.now.grid run.now.spans run.
 text_of answers.EmptyPlan = line (codes "; plan 0 steps")
 text_of (answers.Unreachable problem task certificate) = unreachable_text (problem_of problem.now) task.now.atoms (atoms_of certificate.now.may) (atoms_of certificate.now.always)
 text_of answers.BudgetSpent = line (codes "budget spent")
+text_of (answers.Demo number plan spoiled) = line (codes "demo " ++ decimal number) ++ summary_line plan ++ grid_text spoiled.grid ++ failure_text spoiled.grid spoiled.failure
 text_of (answers.Refused file code at) = line (codes "refused " ++ file_text file ++ codes " " ++ code_text code ++ codes " at " ++ decimal at)
 text_of (answers.ReadFault file) = line (codes "fault read " ++ file_text file)
-text_of answers.Usage = line (codes "usage: stp check DOMAIN PROBLEM PLAN") ++ line (codes "       stp plan DOMAIN PROBLEM [--budget N] [--trace]") ++ line (codes "       stp replay DOMAIN PROBLEM PLAN --durations LIST")
+text_of answers.Usage = line (codes "usage: stp check DOMAIN PROBLEM PLAN") ++ line (codes "       stp plan DOMAIN PROBLEM [--budget N] [--trace]") ++ line (codes "       stp replay DOMAIN PROBLEM PLAN --durations LIST") ++ line (codes "       stp demo N")

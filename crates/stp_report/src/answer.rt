@@ -15,6 +15,28 @@ pub enum FileName {
     Task,
 }
 
+/// How a plan that is not strong fails.
+#[derive(Clone, Copy, Debug, PartialEq, Eq)]
+pub struct Failure {
+    /// The last entry of its least failure, if that has one.
+    pub last: Option<u128>,
+    /// The first fault of the run under its least failure.
+    pub fault: Fault,
+}
+
+/// What is told of a plan of the demo.
+#[derive(Clone, Copy, Debug, PartialEq, Eq)]
+pub struct Summary {
+    /// How many steps it has.
+    pub steps: u32,
+    /// How many of them are uncertain.
+    pub uncertain: u32,
+    /// Its base grid.
+    pub grid: u128,
+    /// How it fails, or nothing where it is strong.
+    pub failure: Option<Failure>,
+}
+
 /// What the program answers. Moments and durations are counted on the grid beside them. A run is lent for less
 /// long than the formulas that it points to.
 #[derive(Clone, Copy)]
@@ -48,6 +70,12 @@ pub enum Answer<'r, 'a> {
     },
     /// The search's budget was spent.
     BudgetSpent,
+    /// The demo of so many rovers: what is told of its plan, and of its spoiled plan.
+    Demo {
+        number: u32,
+        plan: Summary,
+        spoiled: Summary,
+    },
     /// A file is refused, at a place of it.
     Refused {
         file: FileName,

@@ -3,6 +3,7 @@
 
 pub mod answer;
 pub mod code;
+pub mod demo;
 pub mod fault;
 pub mod laws;
 pub mod no_plan;
@@ -10,6 +11,6 @@ pub mod pieces;
 pub mod print;
 pub mod replay;
 
-pub use answer::{Answer, FileName};
+pub use answer::{Answer, Failure, FileName, Summary};
 pub use print::print_answer;
 pub use stp_refusal::Code;

@@ -7,6 +7,7 @@ ghost use Rattle.stp_report.specs.Bounds.{IsGrid, IsTime, IsFaultTime, AreTimes}
 
 use crate::answer::{Answer, FileName};
 use crate::code::code_word;
+use crate::demo::push_demo;
 use crate::fault::push_fault_line;
 use crate::no_plan::push_unreachable;
 use crate::pieces::{push_number, push_time, push_words};
@@ -145,7 +146,8 @@ fn push_usage(out: &mut Text) -> Result<(), Memory>
         ≡ out.old
         ++ line (codes "usage: stp check DOMAIN PROBLEM PLAN")
         ++ line (codes "       stp plan DOMAIN PROBLEM [--budget N] [--trace]")
-        ++ line (codes "       stp replay DOMAIN PROBLEM PLAN --durations LIST")) }
+        ++ line (codes "       stp replay DOMAIN PROBLEM PLAN --durations LIST")
+        ++ line (codes "       stp demo N")) }
 {
     push_words("usage: stp check DOMAIN PROBLEM PLAN\n", out)?;
     push_words(
@@ -155,7 +157,8 @@ fn push_usage(out: &mut Text) -> Result<(), Memory>
     push_words(
         "       stp replay DOMAIN PROBLEM PLAN --durations LIST\n",
         out,
-    )
+    )?;
+    push_words("       stp demo N\n", out)
 }
 
 /// Appends the text of an answer.
@@ -183,6 +186,11 @@ fn push_answer(alloc: Global, answer: &Answer<'_, '_>, out: &mut Text) -> Result
             certificate,
         } => push_unreachable(problem, task, certificate, out),
         Answer::BudgetSpent => push_words("budget spent\n", out),
+        Answer::Demo {
+            number,
+            plan,
+            spoiled,
+        } => push_demo(alloc, *number, *plan, *spoiled, out),
         Answer::Refused { file, code, at } => push_refused(alloc, *file, *code, *at, out),
         Answer::ReadFault(file) => push_read_fault(alloc, *file, out),
         Answer::Usage => push_usage(out),

@@ -5,11 +5,11 @@ use std::test::Fail;
 use stp_cli::Status;
 
 const USAGE: &[u8] =
-    b"usage: stp check DOMAIN PROBLEM PLAN\n       stp plan DOMAIN PROBLEM [--budget N] [--trace]\n       stp replay DOMAIN PROBLEM PLAN --durations LIST\n";
+    b"usage: stp check DOMAIN PROBLEM PLAN\n       stp plan DOMAIN PROBLEM [--budget N] [--trace]\n       stp replay DOMAIN PROBLEM PLAN --durations LIST\n       stp demo N\n";
 
 #[test]
 fn command_lines(rt: HostRuntime) -> Result<(), Fail> {
-    let rows: [&[&str]; 23] = [
+    let rows: [&[&str]; 34] = [
         &[],
         &["stp"],
         &["stp", "check", "d"],
@@ -33,6 +33,17 @@ fn command_lines(rt: HostRuntime) -> Result<(), Fail> {
         &["stp", "replay", "d", "p", "l", "-durations", "4"],
         &["stp", "replay", "--durations", "4", "d", "p", "l"],
         &["stp", "check", "d", "p", "l", "--durations", "4"],
+        &["stp", "demo"],
+        &["stp", "demo", ""],
+        &["stp", "demo", "0"],
+        &["stp", "demo", "000"],
+        &["stp", "demo", "251"],
+        &["stp", "demo", "0002"],
+        &["stp", "demo", "+2"],
+        &["stp", "demo", "-2"],
+        &["stp", "demo", "2.0"],
+        &["stp", "demo", "2", "2"],
+        &["stp", "Demo", "2"],
     ];
     for row in rows {
         let plan: &[u8] = b"0: (make) [4]\n5: (see)";

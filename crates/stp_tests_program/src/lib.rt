@@ -5,6 +5,8 @@
 #[cfg(test)]
 mod commands;
 #[cfg(test)]
+mod demos;
+#[cfg(test)]
 mod environment;
 #[cfg(test)]
 mod lab;
