@@ -12,3 +12,5 @@ mod sets;
 pub use expanding::expand;
 pub use fault::ExpandFault;
 pub use footprint::Footprint;
+pub use merging::footprints_on;
+pub use sets::{is_consistent, picked, sets_of};

@@ -89,7 +89,7 @@ fn merged<'a>(
 }
 
 /// The footprints of ends on a formula.
-pub(crate) fn footprints_on<'a>(
+pub fn footprints_on<'a>(
     alloc: Global,
     arena: &'a Bump,
     cond: &Cond<'_>,

@@ -13,7 +13,7 @@ use std::alloc::Global;
 use stp_base::{AtomId, Memory};
 
 /// Those footprints whose bits are set in a number, the first one's bit being the lowest.
-pub(crate) fn picked<'a>(
+pub fn picked<'a>(
     alloc: Global,
     footprints: &[Footprint<'a>],
     number: usize,
@@ -32,7 +32,7 @@ pub(crate) fn picked<'a>(
 }
 
 /// How many sets of that many footprints there are.
-pub(crate) fn sets_of(footprints: usize) -> usize
+pub fn sets_of(footprints: usize) -> usize
     requires { footprints ≤ MAX_FOOTPRINTS }
     ensures { result ≡ 2 ^ footprints }
 {
@@ -66,7 +66,7 @@ fn are_spared(atoms: &[AtomId], set: &[Footprint<'_>]) -> bool
 }
 
 /// Whether no atom is written both ways in a set.
-pub(crate) fn is_consistent(set: &[Footprint<'_>]) -> bool
+pub fn is_consistent(set: &[Footprint<'_>]) -> bool
     ensures { result ≡ is_consistent (footprints_of set.now) }
 {
     for footprint in set {

@@ -1,0 +1,13 @@
+pub mod Sets
+pub mod Lists
+pub mod Tasks
+pub mod Numbers
+pub mod Ends
+pub mod Proper
+pub mod Settling
+pub mod Cut
+pub mod Nodes
+pub mod SameShadows
+pub mod ExpandedOvers
+pub mod Numbered
+pub mod Made

@@ -1,0 +1,16 @@
+pub mod Atoms
+pub mod Flat
+pub mod SameStates
+pub mod DatedPoints
+pub mod DatedStates
+pub mod KeysApart
+pub mod Insides
+pub mod Asking
+pub mod Valid
+pub mod Sound
+pub mod Validity
+pub mod Owners
+pub mod Boxes
+pub mod Places
+pub mod Numbers
+pub mod WorkedRows

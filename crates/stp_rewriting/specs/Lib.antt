@@ -1,0 +1,5 @@
+pub mod Rewritten
+pub mod Fitting
+pub mod Dated
+pub mod Validity
+pub mod Numbering
